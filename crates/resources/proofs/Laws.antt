@@ -1,0 +1,38 @@
+-- What a set says after insert and remove, and that equal sets are equal numbers: the laws of bits, read of sets.
+use Prim.Native.Nat.{ℕ, _^_, _<_}
+use mathlib.Core.Path.{_≡_, ap}
+use mathlib.Core.Logic.{_≢_, ⊎-elim}
+use mathlib.Core.Bool.{true, false}
+use borrow.Author.Tests.{lt-ltb}
+use native.Mathlib.Omega.{arith}
+use lib.Dec.{ltb}
+use Rattle.terms.proofs.Tests.{true-or-false}
+use Rattle.resources.specs.declared.Set.{Set}
+use Rattle.resources.specs.Resources.{resources, has, with, without}
+use Rattle.resources.proofs.Bits.{set-same, set-other, clear-same, clear-other, same-bits, no-bit}
+
+pub with-same : (s : Set) (r : ℕ) → r < resources → has (with s r) r ≡ true
+unfolding has with
+with-same s r h = rw (lt-ltb _ _ h) (set-same (s .0) r)
+
+pub with-other : (s : Set) (r j : ℕ) → j ≢ r → has (with s r) j ≡ has s j
+unfolding has with
+with-other s r j ne = ⊎-elim (λ e. rw e (set-other (s .0) r j ne)) (λ e. rw e) (true-or-false (ltb r resources))
+
+pub without-same : (s : Set) (r : ℕ) → has (without s r) r ≡ false
+unfolding has without
+without-same s r = clear-same (s .0) r
+
+pub without-other : (s : Set) (r j : ℕ) → j ≢ r → has (without s r) j ≡ has s j
+unfolding has without
+without-other s r j ne = clear-other (s .0) r j ne
+
+-- the empty set
+pub empty-has : (r : ℕ) → has (record { 0 = 0 }) r ≡ false
+unfolding has
+empty-has r = no-bit 0 0 r (omega arith) (omega arith)
+
+-- equal sets are equal numbers
+pub same-set : (s t : Set) → s .0 < 2 ^ resources → t .0 < 2 ^ resources → ((r : ℕ) → r < resources → has s r ≡ has t r) → s ≡ t
+unfolding has
+same-set s t hs ht h = ap (λ (n : ℕ). record { 0 = n }) (same-bits resources (s .0) (t .0) hs ht h)
