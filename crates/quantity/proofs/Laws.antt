@@ -1,12 +1,12 @@
 -- What the quantities come to: products that fit, and plain arithmetic wherever the board's ranges hold.
-use Prim.Native.Nat.{ℕ, _+_, _-_, _*_, _^_, _<_, _≤_}
-use mathlib.Core.Path.{_≡_, ap, subst⁻¹}
+use Prim.Native.Nat.{ℕ, _+_, _-_, _*_, _/_, _^_, _<_, _≤_, min, max}
+use mathlib.Core.Path.{_≡_, refl, ap, subst⁻¹}
 use native.Mathlib.Omega.{arith}
 use native.Mathlib.Nat.{mul-le-mul, le-of-lt, lt-of-le-of-lt, mul-le-mul-left, mul-lt-mul-of-pos-right}
 use lib.Pow.{pow-pos, pow-add}
 use Rattle.quantity.specs.declared.Instant.{Instant}
 use Rattle.quantity.specs.declared.Length.{Length}
-use Rattle.quantity.specs.Quantity.{at, ticks, later, since, longer, shorter, lengthOf, lastInstant, longestLength}
+use Rattle.quantity.specs.Quantity.{at, ticks, later, since, lessPortion, larger, longer, shorter, lengthOf, lastInstant, longestLength}
 
 -- the product of two numbers of k bits has at most k + k
 pub product-below : (k : ℕ) {a b : ℕ} → a < 2 ^ k → b < 2 ^ k → a * b < 2 ^ (k + k)
@@ -44,3 +44,16 @@ shorter-is l m = omega arith
 pub lengthOf-exact : (n : ℕ) → n ≤ longestLength → lengthOf n ≡ ticks n
 unfolding lengthOf
 lengthOf-exact n h = ap ticks (omega arith)
+
+-- the definitions, as equations of numbers
+pub lessPortion-is : (t : Instant) (p q b : Length) → lessPortion t p q b ≡ at (t .0 - q .0 * p .0 / b .0)
+unfolding lessPortion
+lessPortion-is t p q b = refl
+
+pub larger-is : (l m : Length) → larger l m ≡ ticks (max (l .0) (m .0))
+unfolding larger
+larger-is l m = refl
+
+pub later-is : (t : Instant) (l : Length) → (later t l) .0 ≡ min (t .0 + l .0) lastInstant
+unfolding later
+later-is t l = refl

@@ -1,5 +1,5 @@
 -- Two sorts of quantity, in whole ticks. Instant less instant is a length, instant plus length an instant, and two instants are never added.
-use Prim.Native.Nat.{ℕ, _+_, _-_, _*_, _/_, min}
+use Prim.Native.Nat.{ℕ, _+_, _-_, _*_, _/_, min, max}
 use mathlib.Core.Bool.{Bool}
 use lib.Dec.{ltb}
 use Rattle.quantity.specs.declared.Instant.{Instant}
@@ -56,6 +56,10 @@ longer l m = ticks (min (l .0 + m .0) longestLength)
 
 unfoldable pub shorter : Length → Length → Length
 shorter l m = ticks (l .0 - m .0)
+
+-- the longer of two lengths
+unfoldable pub larger : Length → Length → Length
+larger l m = ticks (max (l .0) (m .0))
 
 -- the length of n ticks
 unfoldable pub lengthOf : ℕ → Length

@@ -1,7 +1,7 @@
 // Two sorts of quantity, in whole ticks: an instant and a length.
 // An instant's number is private: instants are made of the clock's begin, its end and lengths alone, so nobody can add two.
 ghost use mathlib.Core.Path.{_≡_};
-ghost use Rattle.quantity.specs.Quantity.{at, ticks, later, since, lessPortion, before, below, longer, shorter, lengthOf};
+ghost use Rattle.quantity.specs.Quantity.{at, ticks, later, since, lessPortion, before, below, longer, shorter, larger, lengthOf};
 ghost use Rattle.quantity.specs.Quantity.{longestPeriod, largestFrame, clockEnd, longestRun};
 
 pub struct Instant(u64);
@@ -53,6 +53,13 @@ impl Length {
         ensures { λ r. ⌜ r ≡ below self other ⌝ }
     {
         self.0 < other.0
+    }
+
+    // The longer of the two.
+    pub fn larger(self, other: Length) -> Length
+        ensures { λ r. ⌜ r ≡ larger self other ⌝ }
+    {
+        if self.0 < other.0 { other } else { self }
     }
 
     pub fn plus(self, other: Length) -> Length

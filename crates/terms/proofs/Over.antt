@@ -1,10 +1,11 @@
 -- What holds of the sum, the largest, every and some over the numbers below n: by going from n to n + 1.
-use Prim.Native.Nat.{ℕ, zero, suc, _≤_, _<_, max}
+use Prim.Native.Nat.{ℕ, zero, suc, _+_, _≤_, _<_, max}
 use mathlib.Core.Path.{_≡_, refl, sym, subst, _∙_}
 use mathlib.Core.Logic.{_⊎_, inl, inr, ⊎-elim}
-use mathlib.Core.Bool.{Bool, true}
+use mathlib.Core.Bool.{Bool, true, _&&_, _||_}
 use native.Mathlib.Omega.{arith}
 use native.Mathlib.Nat.{eq-or-lt-of-le, le-of-suc-le-suc, max-le, max-eq-left, max-eq-right, le-max-left, le-max-right}
+use native.Mathlib.Numerals.{add-one}
 use native.Mathlib.Decide.{decLe}
 use Rattle.terms.specs.Words.{sum, largest, every, some}
 use Rattle.terms.proofs.Tests.{not-both, and-in, and-left, and-right, or-left, or-right, or-out}
@@ -73,3 +74,20 @@ unfolding some
 some-out f zero e = absurd (not-both e refl)
 some-out f (suc n) e =
     ⊎-elim (λ p. let (j, l, q) = some-out f n p in (j, omega arith, q)) (λ p. (n, omega arith, p)) (or-out (some f n) (f n) e)
+
+-- from n to n + 1, as the code counts
+pub sum-next : (f : ℕ → ℕ) (n : ℕ) → sum f (n + 1) ≡ sum f n + f n
+unfolding sum
+sum-next f n = rw add-one
+
+pub largest-next : (f : ℕ → ℕ) (n : ℕ) → largest f (n + 1) ≡ max (largest f n) (f n)
+unfolding largest
+largest-next f n = rw add-one
+
+pub every-next : (f : ℕ → Bool) (n : ℕ) → every f (n + 1) ≡ (every f n && f n)
+unfolding every
+every-next f n = rw add-one
+
+pub some-next : (f : ℕ → Bool) (n : ℕ) → some f (n + 1) ≡ (some f n || f n)
+unfolding some
+some-next f n = rw add-one
