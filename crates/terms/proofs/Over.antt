@@ -1,14 +1,17 @@
--- What holds of the sum, the largest, every and some over the numbers below n: by going from n to n + 1.
+-- What holds of the sum, the largest, every, some and the list over the numbers below n: by going from n to n + 1.
 use Prim.Native.Nat.{ℕ, zero, suc, _+_, _≤_, _<_, max}
 use mathlib.Core.Path.{_≡_, refl, sym, subst, _∙_}
 use mathlib.Core.Logic.{_⊎_, inl, inr, ⊎-elim}
-use mathlib.Core.Bool.{Bool, true, _&&_, _||_}
+use mathlib.Core.Bool.{Bool, true, false, _&&_, _||_}
+use mathlib.Core.List.{[], _∷_}
+use lib.ListN.{length, getD, length-append, List·getD-append}
+use lib.Seq.{getD-at}
 use native.Mathlib.Omega.{arith}
 use native.Mathlib.Nat.{eq-or-lt-of-le, le-of-suc-le-suc, max-le, max-eq-left, max-eq-right, le-max-left, le-max-right}
 use native.Mathlib.Numerals.{add-one}
 use native.Mathlib.Decide.{decLe}
-use Rattle.terms.specs.Words.{sum, largest, every, some}
-use Rattle.terms.proofs.Tests.{not-both, and-in, and-left, and-right, or-left, or-right, or-out}
+use Rattle.terms.specs.Words.{sum, largest, every, some, list}
+use Rattle.terms.proofs.Tests.{not-both, true-or-false, and-in, and-left, and-right, or-left, or-right, or-out}
 
 -- below n + 1: n itself, or below n
 pub last-or-below : {j n : ℕ} → j < suc n → (j ≡ n) ⊎ (j < n)
@@ -91,3 +94,21 @@ every-next f n = rw add-one
 pub some-next : (f : ℕ → Bool) (n : ℕ) → some f (n + 1) ≡ (some f n || f n)
 unfolding some
 some-next f n = rw add-one
+
+-- a test that fails somewhere does not hold everywhere
+pub every-fails : (f : ℕ → Bool) (n j : ℕ) → j < n → f j ≡ false → every f n ≡ false
+every-fails f n j h e = ⊎-elim (λ t. absurd (not-both (every-out f n t j h) e)) (λ t. t) (true-or-false (every f n))
+
+-- the list's length, and what stands at each place
+module _ {A : Type 0} (f : ℕ → A) where
+  pub list-length : (n : ℕ) → length (list f n) ≡ n
+  unfolding list
+  list-length zero = refl
+  list-length (suc n) = rw (length-append, list-length n, add-one)
+
+  pub list-at : (n j : ℕ) (d : A) → j < n → getD (list f n) j d ≡ f j
+  unfolding list
+  list-at zero j d h = absurd (omega arith)
+  list-at (suc n) j d h =
+      ⊎-elim (λ (e : j ≡ n). rw e (getD-at (list f n) (f n) [] d n (list-length n)))
+      (λ (l : j < n). List·getD-append (list f n) (f n ∷ []) d j (rw list-length l) ∙ list-at n j d l) (last-or-below h)

@@ -1,6 +1,7 @@
--- The words that all definitions share: if, where, and the sum, the largest, every and some over the numbers below n.
+-- The words that all definitions share: if, where, and the sum, the largest, every, some and the list over the numbers below n.
 use Prim.Native.Nat.{ℕ, zero, suc, _+_, max}
 use mathlib.Core.Bool.{Bool, true, false, _&&_, _||_}
+use mathlib.Core.List.{List, [], _∷_, _++_}
 
 -- an if
 abbrev pub pick : {A : Type 0} → Bool → A → A → A
@@ -31,3 +32,8 @@ every f (suc n) = every f n && f n
 unfoldable pub some : (ℕ → Bool) → ℕ → Bool
 some f zero = false
 some f (suc n) = some f n || f n
+
+-- the list of f 0, f 1, .., f (n - 1)
+unfoldable pub list : {A : Type 0} → (ℕ → A) → ℕ → List A
+list f zero = []
+list f (suc n) = list f n ++ (f n ∷ [])
