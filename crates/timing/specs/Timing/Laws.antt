@@ -6,6 +6,7 @@ use mathlib.Core.Bool.{Bool, true, false}
 use native.Mathlib.Omega.{arith}
 use native.Mathlib.Nat.{mul-le-mul-left, mul-le-mul-right, mul-add, mul-div-le, le-of-mul-le-mul-left, le-div-iff-mul-le, zero-mul, zero-div, sub-zero}
 use native.Mathlib.Decide.{decLe}
+use lib.ListN.{getD}
 use borrow.Author.Tests.{lt-ltb, le-ltb, eq-eqb, ne-eqb}
 use Rattle.terms.specs.Words.{largest}
 use Rattle.terms.proofs.Over.{largest-upper, largest-one}
@@ -92,13 +93,22 @@ module _ (f : Figures) (s : Instant) where
   pub replenished-exact : Ranged f → s .0 ≤ clockEnd + longestPeriod → replenished f s .deadline ≡ at (s .0 + f .period .0)
   replenished-exact r h = replenished-deadline (omega (arith, r .period-high))
 
+-- there is no hold of a resource above 7
+pub hold-outside : (f : Figures) (r : ℕ) → 8 ≤ r → hold f r ≡ ticks 0
+unfolding hold
+hold-outside f r h = simp (le-ltb _ _ h)
+
+pub hold-inside : (f : Figures) (r : ℕ) → r < 8 → hold f r ≡ getD (f .holds) r (ticks 0)
+unfolding hold
+hold-inside f r h = simp (lt-ltb _ _ h)
+
 -- the largest of the holds: at least each, and one of them or 0
 pub largestHold-upper : (f : Figures) (r : ℕ) → hold f r .0 ≤ largestHold f .0
-unfolding largestHold hold
+unfolding largestHold
 largestHold-upper f r = go (decLe 8 r)
   where
     go : Dec (8 ≤ r) → hold f r .0 ≤ largest (λ k. hold f k .0) 8
-    go (yes h) = rw (le-ltb _ _ h) (omega arith)
+    go (yes h) = rw (hold-outside f r h) (omega arith)
     go (no z) = largest-upper (λ k. hold f k .0) 8 r (omega arith)
 
 pub largestHold-one : (f : Figures) → ((r : ℕ) × (r < 8) × (largestHold f .0 ≡ hold f r .0)) ⊎ (largestHold f .0 ≡ 0)
