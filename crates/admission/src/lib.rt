@@ -171,7 +171,7 @@ fn used(table: [Figures; 16], p: Length, r: u8) -> bool
 fn hold_above(f: Figures, p: Length, r: u8) -> Length
     ensures { λ h. ⌜ h ≡ holdAbove f (p .0) r ⌝ }
 {
-    if p.0 < f.period.0 {
+    if f.period.0 > p.0 {
         f.hold(r)
     } else {
         Length(0)

@@ -1,6 +1,6 @@
 -- Tests that are joined, taken apart: by cases on each.
 use Prim.Native.Nat.{ℕ}
-use mathlib.Core.Path.{_≡_, refl}
+use mathlib.Core.Path.{_≡_, refl, sym, ap, _∙_}
 use mathlib.Core.Logic.{_⊎_, inl, inr}
 use mathlib.Core.Bool.{Bool, true, false, _&&_, _||_}
 use native.Mathlib.Omega.{arith}
@@ -48,3 +48,7 @@ or-out false y p = inr p
 pub either : {A : Type 0} (P : A → Type 0) (t : Bool) {x y : A} → P x → P y → P (pick t x y)
 either P true p q = p
 either P false p q = q
+
+-- a test on what a callee gave is the test on what the callee's definition says
+pub test-of : {A : Type 0} {x y : A} {b v : Bool} (test : A → Bool) → b ≡ test x → x ≡ y → b ≡ v → test y ≡ v
+test-of test e q t = ap test (sym q) ∙ sym e ∙ t

@@ -64,10 +64,13 @@ arrived f l now = pick (before now (tr f l)) (waits l (tr f l)) (record { life =
 
 -- lock with q >= the largest of its holds: granted. Otherwise, if now < tr, suspended until tr; if not, replenish from tr
 -- (not from now) and the answer is "renewed"
+unfoldable pub lacking : Figures → Life → Instant → Ruled
+lacking f l now = pick (before now (tr f l)) (waits l (tr f l)) (record { life = replenished f (tr f l); ruling = ruling.Renewed })
+
 pub asked : Figures → Life → ℕ → Instant → Ruled
 asked f l r now =
     pick (not (below (l .left) (largestHold f))) (record { life = inState l (Ready true (On r (ticks 0))); ruling = ruling.Done })
-    (pick (before now (tr f l)) (waits l (tr f l)) (record { life = replenished f (tr f l); ruling = ruling.Renewed }))
+    (lacking f l now)
 
 -- when now reaches the instant t that a server waits for, replenish from t
 unfoldable pub comes : Figures → Life → Instant → Instant → Life

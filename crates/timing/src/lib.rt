@@ -1,6 +1,6 @@
 // One server: what was admitted stands apart from what changes, so that the table is one array and the lives another.
 ghost use mathlib.Core.Path.{_≡_};
-ghost use Rattle.timing.specs.Timing.{present, hold, largestHold, begun, inState, tr, replenished, waits, arrived, asked, comes, ended, settled, woken, heldOn, ran};
+ghost use Rattle.timing.specs.Timing.{present, hold, largestHold, begun, inState, tr, replenished, waits, arrived, lacking, asked, comes, ended, settled, woken, heldOn, ran};
 use quantity::Instant;
 use quantity::Length;
 
@@ -169,21 +169,10 @@ impl Life {
         }
     }
 
-    // A ready server asks for resource r, which it may have but for its budget.
-    pub fn lock(self, f: Figures, r: u8, now: Instant) -> Ruled
-        ensures { λ o. ⌜ o ≡ asked f self r now ⌝ }
+    // A lock is asked for with too little left.
+    fn lack(self, f: Figures, now: Instant) -> Ruled
+        ensures { λ o. ⌜ o ≡ lacking f self now ⌝ }
     {
-        let most = f.largest_hold();
-        if !self.left.is_below(most) {
-            let l = self.in_state(State::Ready {
-                started: true,
-                lock: Lock::On(r, Length(0)),
-            });
-            return Ruled {
-                life: l,
-                ruling: Ruling::Done,
-            };
-        }
         let tr = self.tr(f);
         if now.is_before(tr) {
             return self.wait_until(tr);
@@ -192,6 +181,24 @@ impl Life {
         Ruled {
             life: l,
             ruling: Ruling::Renewed,
+        }
+    }
+
+    // A ready server asks for resource r, which it may have but for its budget.
+    pub fn lock(self, f: Figures, r: u8, now: Instant) -> Ruled
+        ensures { λ o. ⌜ o ≡ asked f self r now ⌝ }
+    {
+        let most = f.largest_hold();
+        if self.left.is_below(most) {
+            return self.lack(f, now);
+        }
+        let l = self.in_state(State::Ready {
+            started: true,
+            lock: Lock::On(r, Length(0)),
+        });
+        Ruled {
+            life: l,
+            ruling: Ruling::Done,
         }
     }
 

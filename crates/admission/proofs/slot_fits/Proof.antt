@@ -14,7 +14,7 @@ returns c = simp (eq-eqb _ _ (c .if1 .taken))
 
 returns-2 : tie.Need-returns-2
 unfolding slotFits
-returns-2 c = simp (ne-eqb _ _ (c .before .if1 .left)) (cc)
+returns-2 c = simp (ne-eqb _ _ (c .before .if1 .left)) (c .fits-at .ensures)
 
 pub slot-fits-spec : {M : Type 1} → statement M
 slot-fits-spec = tie.close (tie.spec fits-at-requires returns returns-2)

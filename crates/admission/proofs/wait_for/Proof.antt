@@ -12,7 +12,7 @@ longest-hold-requires c κs = search needs
 
 returns : tie.Need-returns
 unfolding waitFor
-returns c = simp (rw (c .before .before .used .ensures) at (c .before .if1 .taken)) (cc)
+returns c = simp (rw (c .before .before .used .ensures) at (c .before .if1 .taken)) (c .longest-hold .ensures)
 
 returns-2 : tie.Need-returns-2
 unfolding waitFor

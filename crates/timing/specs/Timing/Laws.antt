@@ -20,7 +20,7 @@ use Rattle.timing.specs.declared.State.the-variants.{Idle, Ready, Suspen
 use Rattle.timing.specs.declared.Lock.{Lock}
 use Rattle.timing.specs.declared.Lock.the-variants.{Free, On}
 use Rattle.timing.specs.declared.Ruling.the-variants as ruling
-use Rattle.timing.specs.Timing.{hold, Ranged, largestHold, inState, tr, replenished, waits, arrived, asked, comes, ended, settled, woken, heldOn, ran}
+use Rattle.timing.specs.Timing.{hold, Ranged, largestHold, inState, tr, replenished, waits, arrived, lacking, asked, comes, ended, settled, woken, heldOn, ran}
 
 -- the replenishment instant: P the period, Q the budget, q what is left of it, d the deadline
 module _ (f : Figures) (l : Life) where
@@ -132,12 +132,12 @@ module _ (f : Figures) (l : Life) (now : Instant) where
     asked-granted h = simp (le-ltb _ _ h)
 
     pub asked-later : l .left .0 < largestHold f .0 → now .0 < tr f l .0 → asked f l r now ≡ waits l (tr f l)
-    unfolding asked
+    unfolding asked lacking
     asked-later h k = simp (lt-ltb _ _ h, lt-ltb _ _ k)
 
     pub asked-renewed : l .left .0 < largestHold f .0 → tr f l .0 ≤ now .0
         → asked f l r now ≡ record { life = replenished f (tr f l); ruling = ruling.Renewed }
-    unfolding asked
+    unfolding asked lacking
     asked-renewed h k = simp (lt-ltb _ _ h, le-ltb _ _ k)
 
   -- the spent rule: a ready server with nothing left and no lock; every other stays

@@ -10,7 +10,7 @@ use Rattle.timing.specs.declared.Life.{Life}
 use Rattle.timing.specs.declared.State.the-variants.{Ready}
 use Rattle.timing.specs.declared.Lock.the-variants.{Free, On}
 use Rattle.timing.specs.declared.Ruling.the-variants as ruling
-use Rattle.timing.specs.Timing.{hold, largestHold, inState, tr, replenished, waits, arrived, asked, settledIn, settled, wokenIn, woken, ranIn, ran}
+use Rattle.timing.specs.Timing.{hold, largestHold, inState, tr, replenished, waits, arrived, lacking, asked, settledIn, settled, wokenIn, woken, ranIn, ran}
 
 pub largestHold-is : (f : Figures) → largestHold f ≡ ticks (largest (λ r. hold f r .0) 8)
 unfolding largestHold
@@ -30,8 +30,7 @@ unfolding arrived
 arrived-is f l now = refl
 
 pub asked-is : (f : Figures) (l : Life) (r : ℕ) (now : Instant)
-    → asked f l r now ≡ pick (not (below (l .left) (largestHold f))) (record { life = inState l (Ready true (On r (ticks 0))); ruling = ruling.Done })
-    (pick (before now (tr f l)) (waits l (tr f l)) (record { life = replenished f (tr f l); ruling = ruling.Renewed }))
+    → asked f l r now ≡ pick (not (below (l .left) (largestHold f))) (record { life = inState l (Ready true (On r (ticks 0))); ruling = ruling.Done }) (lacking f l now)
 unfolding asked
 asked-is f l r now = refl
 
