@@ -1,14 +1,16 @@
 -- What a set says after insert and remove, and that equal sets are equal numbers: the laws of bits, read of sets.
-use Prim.Native.Nat.{ℕ, _^_, _<_}
-use mathlib.Core.Path.{_≡_, ap}
+use Prim.Native.Nat.{ℕ, _*_, _/_, _%_, _^_, _<_, _≤_}
+use mathlib.Core.Path.{_≡_, refl, ap}
 use mathlib.Core.Logic.{_≢_, ⊎-elim}
 use mathlib.Core.Bool.{true, false}
 use borrow.Author.Tests.{lt-ltb}
 use native.Mathlib.Omega.{arith}
-use lib.Dec.{ltb}
+use lib.Dec.{ltb, eqb}
+use lib.Pow.{pow-pos}
+use native.Mathlib.Nat.{div-lt-iff-lt-mul}
 use Rattle.terms.proofs.Tests.{true-or-false}
 use Rattle.resources.specs.declared.Set.{Set}
-use Rattle.resources.specs.Resources.{resources, has, with, without}
+use Rattle.resources.specs.Resources.{resources, bit, has, with, without}
 use Rattle.resources.proofs.Bits.{set-same, set-other, clear-same, clear-other, same-bits, no-bit}
 
 pub with-same : (s : Set) (r : ℕ) → r < resources → has (with s r) r ≡ true
@@ -36,3 +38,19 @@ empty-has r = no-bit 0 0 r (omega arith) (omega arith)
 pub same-set : (s t : Set) → s .0 < 2 ^ resources → t .0 < 2 ^ resources → ((r : ℕ) → r < resources → has s r ≡ has t r) → s ≡ t
 unfolding has
 same-set s t hs ht h = ap (λ (n : ℕ). record { 0 = n }) (same-bits resources (s .0) (t .0) hs ht h)
+
+-- the bit itself, for whoever walks the number
+pub has-bit : (s : Set) (r : ℕ) → has s r ≡ eqb (s .0 / 2 ^ r % 2) 1
+unfolding has bit
+has-bit s r = refl
+
+lt-pow : (x r : ℕ) → x / 2 ^ r ≡ 0 → x < 2 ^ r
+lt-pow x r e =
+    let l : x / 2 ^ r < 1 = omega arith in
+    let m : x < 1 * 2 ^ r = div-lt-iff-lt-mul (pow-pos r) .0 l in
+    omega arith
+
+-- no resource is in the set from where nothing is left of the number
+pub has-beyond : (s : Set) (r j : ℕ) → s .0 / 2 ^ r ≡ 0 → r ≤ j → has s j ≡ false
+unfolding has
+has-beyond s r j e l = no-bit r (s .0) j (lt-pow (s .0) r e) l

@@ -38,6 +38,28 @@ pub record Ranged (f : Figures) : Type 0 where
 pub largestHold : Figures → Length
 largestHold f = ticks (largest (λ r. hold f r .0) 8)
 
+-- ready; ready and started; stopped
+abbrev pub isReady : State → Bool
+isReady (Ready started lock) = true
+isReady Idle = false
+isReady (Suspended t) = false
+isReady Spent = false
+isReady Stopped = false
+
+abbrev pub isStarted : State → Bool
+isStarted (Ready started lock) = started
+isStarted Idle = false
+isStarted (Suspended t) = false
+isStarted Spent = false
+isStarted Stopped = false
+
+abbrev pub isStopped : State → Bool
+isStopped Stopped = true
+isStopped Idle = false
+isStopped (Ready started lock) = false
+isStopped (Suspended t) = false
+isStopped Spent = false
+
 -- at start all are idle with budget q = 0 and deadline d = 0
 abbrev pub begun : Life
 begun = record { state = Idle; left = ticks 0; deadline = at 0 }
@@ -98,6 +120,17 @@ wokenIn Spent f l now = comes f l (l .deadline) now
 wokenIn Idle f l now = l
 wokenIn (Ready started lock) f l now = l
 wokenIn Stopped f l now = l
+
+-- its instant has come
+abbrev pub dueIn : State → Life → Instant → Bool
+dueIn (Suspended t) l now = not (before now t)
+dueIn Spent l now = not (before now (l .deadline))
+dueIn Idle l now = false
+dueIn (Ready started lock) l now = false
+dueIn Stopped l now = false
+
+unfoldable pub due : Life → Instant → Bool
+due l now = dueIn (l .state) l now
 
 pub woken : Figures → Life → Instant → Life
 woken f l now = wokenIn (l .state) f l now

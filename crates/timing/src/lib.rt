@@ -1,6 +1,6 @@
 // One server: what was admitted stands apart from what changes, so that the table is one array and the lives another.
 ghost use mathlib.Core.Path.{_≡_};
-ghost use Rattle.timing.specs.Timing.{present, hold, largestHold, begun, inState, tr, replenished, waits, arrived, lacking, asked, comes, ended, settled, woken, heldOn, ran};
+ghost use Rattle.timing.specs.Timing.{isReady, isStarted, isStopped, due, present, hold, largestHold, begun, inState, tr, replenished, waits, arrived, lacking, asked, comes, ended, settled, woken, heldOn, ran};
 use quantity::Instant;
 use quantity::Length;
 
@@ -106,6 +106,51 @@ impl Lock {
         match self {
             Lock::Free => Lock::Free,
             Lock::On(r, n) => Lock::On(r, n.plus(Length(1))),
+        }
+    }
+}
+
+impl State {
+    pub fn is_ready(self) -> bool
+        ensures { λ r. ⌜ r ≡ isReady self ⌝ }
+    {
+        match self {
+            State::Ready {
+                started: _,
+                lock: _,
+            } => true,
+            State::Idle => false,
+            State::Suspended(_) => false,
+            State::Spent => false,
+            State::Stopped => false,
+        }
+    }
+
+    // Ready and started.
+    pub fn is_started(self) -> bool
+        ensures { λ r. ⌜ r ≡ isStarted self ⌝ }
+    {
+        match self {
+            State::Ready { started, lock: _ } => started,
+            State::Idle => false,
+            State::Suspended(_) => false,
+            State::Spent => false,
+            State::Stopped => false,
+        }
+    }
+
+    pub fn is_stopped(self) -> bool
+        ensures { λ r. ⌜ r ≡ isStopped self ⌝ }
+    {
+        match self {
+            State::Stopped => true,
+            State::Idle => false,
+            State::Ready {
+                started: _,
+                lock: _,
+            } => false,
+            State::Suspended(_) => false,
+            State::Spent => false,
         }
     }
 }
@@ -239,6 +284,24 @@ impl Life {
             State::Suspended(_) => self,
             State::Spent => self,
             State::Stopped => self,
+        }
+    }
+
+    // Whether the instant that it waits for has come.
+    pub fn is_due(self, now: Instant) -> bool
+        ensures { λ r. ⌜ r ≡ due self now ⌝ }
+    {
+        let state = self.state;
+        let d = self.deadline;
+        match state {
+            State::Suspended(t) => !now.is_before(t),
+            State::Spent => !now.is_before(d),
+            State::Idle => false,
+            State::Ready {
+                started: _,
+                lock: _,
+            } => false,
+            State::Stopped => false,
         }
     }
 

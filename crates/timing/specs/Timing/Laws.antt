@@ -7,20 +7,21 @@ use native.Mathlib.Omega.{arith}
 use native.Mathlib.Nat.{mul-le-mul-left, mul-le-mul-right, mul-add, mul-div-le, le-of-mul-le-mul-left, le-div-iff-mul-le, zero-mul, zero-div, sub-zero}
 use native.Mathlib.Decide.{decLe}
 use lib.ListN.{getD}
-use borrow.Author.Tests.{lt-ltb, le-ltb, eq-eqb, ne-eqb}
+use borrow.Author.Tests.{not-false, lt-ltb, le-ltb, eq-eqb, ne-eqb}
 use Rattle.terms.specs.Words.{largest}
 use Rattle.terms.proofs.Over.{largest-upper, largest-one}
 use Rattle.quantity.specs.declared.Instant.{Instant}
 use Rattle.quantity.specs.declared.Length.{Length}
-use Rattle.quantity.specs.Quantity.{at, ticks, shorter, lastInstant, clockEnd, longestPeriod}
+use Rattle.quantity.specs.Quantity.{before, at, ticks, shorter, lastInstant, clockEnd, longestPeriod}
 use Rattle.quantity.proofs.Laws.{later-exact}
 use Rattle.timing.specs.declared.Figures.{Figures}
 use Rattle.timing.specs.declared.Life.{Life}
+use Rattle.timing.specs.declared.State.{State}
 use Rattle.timing.specs.declared.State.the-variants.{Idle, Ready, Suspended, Spent, Stopped}
 use Rattle.timing.specs.declared.Lock.{Lock}
 use Rattle.timing.specs.declared.Lock.the-variants.{Free, On}
 use Rattle.timing.specs.declared.Ruling.the-variants as ruling
-use Rattle.timing.specs.Timing.{hold, Ranged, largestHold, inState, tr, replenished, waits, arrived, lacking, asked, comes, ended, settled, woken, heldOn, ran}
+use Rattle.timing.specs.Timing.{hold, Ranged, largestHold, inState, tr, replenished, waits, arrived, lacking, asked, comes, ended, settled, dueIn, due, wokenIn, woken, heldOn, ran}
 
 -- the replenishment instant: P the period, Q the budget, q what is left of it, d the deadline
 module _ (f : Figures) (l : Life) where
@@ -186,6 +187,18 @@ module _ (f : Figures) (l : Life) (now : Instant) where
   pub woken-stopped : l .state ≡ Stopped → woken f l now ≡ l
   unfolding woken
   woken-stopped e = simp e
+
+-- who is not due stays as it is
+pub woken-not-due : (f : Figures) (l : Life) (now : Instant) → due l now ≡ false → woken f l now ≡ l
+unfolding due woken comes
+woken-not-due f l now = go (l .state) refl
+  where
+    go : (s : State) → l .state ≡ s → dueIn (l .state) l now ≡ false → wokenIn (l .state) f l now ≡ l
+    go Idle e h = simp e
+    go (Ready started k) e h = simp e
+    go Stopped e h = simp e
+    go (Suspended t) e h = simp (e, not-false (before now t) (simp e at h))
+    go Spent e h = simp (e, not-false (before now (l .deadline)) (simp e at h))
 
 -- one tick of the server that runs
 pub ran-ready : (l : Life) (started : Bool) (k : Lock) → l .state ≡ Ready started k

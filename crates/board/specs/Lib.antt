@@ -1,0 +1,4 @@
+pub mod Board
+pub mod Calls
+pub mod Run
+pub mod Steps
