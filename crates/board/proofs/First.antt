@@ -15,7 +15,7 @@ use Rattle.admission.specs.Admission.{slots}
 use Rattle.board.specs.declared.Board.{Board}
 use Rattle.board.specs.declared.Best.{Best}
 use Rattle.board.specs.declared.Choice.the-variants.{Nobody, Slot}
-use Rattle.board.specs.Board.{lifeAt, stands, precedes, isFirst, first, search}
+use Rattle.board.specs.Board.{lifeAt, stands, precedes, isFirst, first, seek}
 use Rattle.board.specs.Steps.{keeps, betterOf, bestOf, chosen}
 use Rattle.board.proofs.Search.{search-none, search-only, search-out, search-nobody}
 
@@ -158,7 +158,7 @@ module _ (b : Board) (s : Bool) where
       h : Best-of slots p
       h = best-is slots
 
-      go : (a : Bool) → p .any ≡ a → search (isFirst b s) slots ≡ chosen p
+      go : (a : Bool) → p .any ≡ a → seek (isFirst b s) slots ≡ chosen p
       go false e =
           rw e (search-none (isFirst b s) slots (λ j l.
           ⊎-elim (λ f. absurd (not-both (first-stands j f) (h .none e j l))) (λ f. f) (true-or-false (isFirst b s j))))

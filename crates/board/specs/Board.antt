@@ -70,9 +70,9 @@ abbrev pub orElse : Choice → Choice → Choice
 orElse (Slot i) c = Slot i
 orElse Nobody c = c
 
-unfoldable pub search : (ℕ → Bool) → ℕ → Choice
-search f zero = Nobody
-search f (suc n) = orElse (search f n) (pick (f n) (Slot n) Nobody)
+unfoldable pub seek : (ℕ → Bool) → ℕ → Choice
+seek f zero = Nobody
+seek f (suc n) = orElse (seek f n) (pick (f n) (Slot n) Nobody)
 
 -- a ready server, or a started one
 abbrev pub standsIn : State → Bool → Bool
@@ -90,7 +90,7 @@ abbrev pub isFirst : Board → Bool → ℕ → Bool
 isFirst b started i = stands b started i && every (λ j. not (stands b started j) || (eqb j i || precedes b i j)) slots
 
 unfoldable pub first : Board → Bool → Choice
-first b started = search (isFirst b started) slots
+first b started = seek (isFirst b started) slots
 
 -- the lower of two ceilings
 abbrev pub lower : Ceiling → Ceiling → Ceiling

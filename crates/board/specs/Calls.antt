@@ -5,6 +5,7 @@ use mathlib.Core.List.{List}
 use lib.ListN.{getD, set, replicate}
 use lib.Dec.{ltb, leb, eqb}
 use Rattle.terms.specs.Words.{pick}
+use Rattle.quantity.specs.declared.Length.{Length}
 use Rattle.quantity.specs.Quantity.{at, ticks, lengthOf, largestFrame}
 use Rattle.resources.specs.declared.Set.{Set}
 use Rattle.resources.specs.Resources.{has, with, without}
@@ -26,7 +27,7 @@ use Rattle.board.specs.declared.Answer.{Answer}
 use Rattle.board.specs.declared.Answer.the-variants as answer
 use Rattle.board.specs.declared.Choice.{Choice}
 use Rattle.board.specs.declared.Choice.the-variants as choice
-use Rattle.board.specs.Board.{figuresAt, lifeAt, next, withLife, out, search, named, isSlot}
+use Rattle.board.specs.Board.{figuresAt, lifeAt, next, withLife, out, seek, named, isSlot}
 
 abbrev pub refuse : Board → ℕ → Outcome
 refuse b n = out b (answer.Refused n)
@@ -35,9 +36,9 @@ abbrev pub empty : Set
 empty = record { 0 = 0 }
 
 -- a board with a frame and nothing else: commissioning, clock 0, empty table, nothing locked or closed
-abbrev pub fresh : ℕ → Board
+unfoldable pub fresh : Length → Board
 fresh frame = record {
-  frame = lengthOf frame;
+  frame = frame;
   running = false;
   table = replicate slots nobody;
   lives = replicate slots begun;
@@ -46,32 +47,36 @@ fresh frame = record {
   closed = empty;
 }
 
+-- no frame yet
+abbrev pub blank : Board
+blank = fresh (ticks 0)
+
 -- opening a board with a frame: 3; it is allowed at any time and begins afresh
 unfoldable pub opened : Board → ℕ → Outcome
-opened b frame = pick (leb 1 frame && leb frame largestFrame) (out (fresh frame) (answer.Done 0)) (refuse b 3)
+opened b frame = pick (leb 1 frame && leb frame largestFrame) (out (fresh (lengthOf frame)) (answer.Done 0)) (refuse b 3)
 
 -- 1: in commissioning, with a frame
-abbrev pub commissioning : Board → Bool
+unfoldable pub commissioning : Board → Bool
 commissioning b = not (b .running) && not (eqb (b .frame .0) 0)
 
 -- the lowest slot that is not in the table
 unfoldable pub vacancy : List Figures → Choice
-vacancy t = search (λ i. not (inTable t i)) slots
+vacancy t = seek (λ i. not (inTable t i)) slots
 
 -- admit: 1, 2, 4, 5, 6, 7
+abbrev pub withTable : Board → List Figures → Board
+withTable b t = record {
+  frame = b .frame;
+  running = b .running;
+  table = t;
+  lives = b .lives;
+  clock = b .clock;
+  locked = b .locked;
+  closed = b .closed;
+}
+
 unfoldable pub admittedAs : Board → ℕ → Judged → Outcome
-admittedAs b i j =
-    pick (eqb (j .number) 0)
-    (out (record {
-      frame = b .frame;
-      running = b .running;
-      table = placed (b .table) i (j .figures);
-      lives = b .lives;
-      clock = b .clock;
-      locked = b .locked;
-      closed = b .closed;
-    }) (answer.Done i))
-    (refuse b (j .number))
+admittedAs b i j = pick (eqb (j .number) 0) (out (withTable b (placed (b .table) i (j .figures))) (answer.Done i)) (refuse b (j .number))
 
 unfoldable pub admittedIn : Board → Choice → ℕ → ℕ → List ℕ → Outcome
 admittedIn b choice.Nobody p q hs = refuse b 2

@@ -3,6 +3,7 @@ ghost use mathlib.Core.Path.{_≡_};
 ghost use Rattle.board.specs.Board.{numberOf, valueOf, withLife, lower, clears};
 ghost use Prim.Native.Nat.{_<_};
 
+mod calls;
 mod name;
 
 use quantity::Instant;
