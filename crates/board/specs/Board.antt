@@ -47,6 +47,10 @@ next b lives clock locked closed = record {
 unfoldable pub withLife : Board → ℕ → Life → Board
 withLife b i l = next b (set (b .lives) i l) (b .clock) (b .locked) (b .closed)
 
+-- the board with another life in slot i and other sets
+unfoldable pub withSets : Board → ℕ → Life → Set → Set → Board
+withSets b i l locked closed = next b (set (b .lives) i l) (b .clock) locked closed
+
 abbrev pub out : Board → Answer → Outcome
 out b a = record { board = b; answer = a }
 

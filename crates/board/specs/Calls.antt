@@ -27,7 +27,7 @@ use Rattle.board.specs.declared.Answer.{Answer}
 use Rattle.board.specs.declared.Answer.the-variants as answer
 use Rattle.board.specs.declared.Choice.{Choice}
 use Rattle.board.specs.declared.Choice.the-variants as choice
-use Rattle.board.specs.Board.{figuresAt, lifeAt, next, withLife, out, seek, named, isSlot}
+use Rattle.board.specs.Board.{figuresAt, lifeAt, withLife, withSets, out, seek, named, isSlot}
 
 abbrev pub refuse : Board → ℕ → Outcome
 refuse b n = out b (answer.Refused n)
@@ -126,13 +126,19 @@ unfoldable pub arrives : Board → ℕ → Outcome
 arrives b i = pick (not (eqb (standing b i) 0)) (refuse b (standing b i)) (arrivedIn (lifeAt b i .state) b i)
 
 -- done: 1, 8, 16, 9 (not for a spent server), 11; it becomes idle and keeps q and d
-abbrev pub rested : Board → ℕ → Outcome
+unfoldable pub rested : Board → ℕ → Outcome
 rested b i = out (withLife b i (inState (lifeAt b i) Idle)) (answer.Done 0)
 
+unfoldable pub doneWith : Lock → Board → ℕ → Outcome
+doneWith Free b i = rested b i
+doneWith (On r n) b i = refuse b 11
+
+unfoldable pub doneReady : Lock → Board → ℕ → Outcome
+doneReady k b i = pick (not (isSlot (named b) i)) (refuse b 9) (doneWith k b i)
+
 unfoldable pub doneIn : State → Board → ℕ → Outcome
+doneIn (Ready s k) b i = doneReady k b i
 doneIn Spent b i = rested b i
-doneIn (Ready s Free) b i = pick (isSlot (named b) i) (rested b i) (refuse b 9)
-doneIn (Ready s (On r n)) b i = pick (isSlot (named b) i) (refuse b 11) (refuse b 9)
 doneIn Idle b i = refuse b 9
 doneIn (Suspended t) b i = refuse b 9
 doneIn Stopped b i = refuse b 9
@@ -140,25 +146,34 @@ doneIn Stopped b i = refuse b 9
 unfoldable pub doneBy : Board → ℕ → Outcome
 doneBy b i = pick (not (eqb (standing b i) 0)) (refuse b (standing b i)) (doneIn (lifeAt b i .state) b i)
 
--- lock: 1, 8, 16, 9, 11, 10, 13, 14, then the budget
+-- lock: 1, 8, 16, 9, 11, 10, 13, 14, then the budget; a granted lock sets bit r
 abbrev pub granted : Ruling → Bool
 granted ruling.Done = true
 granted (ruling.Suspended t) = false
 granted ruling.Renewed = false
 
-unfoldable pub locking : Board → ℕ → ℕ → Ruled → Outcome
-locking b i r o =
-    out (next b (set (b .lives) i (o .life)) (b .clock) (pick (granted (o .ruling)) (with (b .locked) r) (b .locked)) (b .closed))
-    (answerTo (o .ruling))
+unfoldable pub lockedBy : Set → ℕ → Ruling → Set
+lockedBy s r o = pick (granted o) (with s r) s
 
-unfoldable pub lockIn : State → Board → ℕ → ℕ → Outcome
-lockIn (Ready s Free) b i r =
-    pick (not (isSlot (named b) i)) (refuse b 9)
-    (pick (eqb (hold (figuresAt b i) r .0) 0) (refuse b 10)
+unfoldable pub locking : Board → ℕ → ℕ → Ruled → Outcome
+locking b i r o = out (withSets b i (o .life) (lockedBy (b .locked) r (o .ruling)) (b .closed)) (answerTo (o .ruling))
+
+unfoldable pub lockFree : Board → ℕ → ℕ → Outcome
+lockFree b i r =
+    pick (eqb (hold (figuresAt b i) r .0) 0) (refuse b 10)
     (pick (has (b .closed) r) (refuse b 13)
     (pick (has (b .locked) r) (refuse b 14)
-    (locking b i r (asked (figuresAt b i) (lifeAt b i) r (b .clock))))))
-lockIn (Ready s (On q n)) b i r = pick (isSlot (named b) i) (refuse b 11) (refuse b 9)
+    (locking b i r (asked (figuresAt b i) (lifeAt b i) r (b .clock)))))
+
+unfoldable pub lockWith : Lock → Board → ℕ → ℕ → Outcome
+lockWith (On q n) b i r = refuse b 11
+lockWith Free b i r = lockFree b i r
+
+unfoldable pub lockReady : Lock → Board → ℕ → ℕ → Outcome
+lockReady k b i r = pick (not (isSlot (named b) i)) (refuse b 9) (lockWith k b i r)
+
+unfoldable pub lockIn : State → Board → ℕ → ℕ → Outcome
+lockIn (Ready s k) b i r = lockReady k b i r
 lockIn Idle b i r = refuse b 9
 lockIn (Suspended t) b i r = refuse b 9
 lockIn Spent b i r = refuse b 9
@@ -167,14 +182,20 @@ lockIn Stopped b i r = refuse b 9
 unfoldable pub locks : Board → ℕ → ℕ → Outcome
 locks b i r = pick (not (eqb (standing b i) 0)) (refuse b (standing b i)) (lockIn (lifeAt b i .state) b i r)
 
--- unlock: 1, 8, 16, 9, 12; a server with q = 0 becomes spent at once
+-- unlock: 1, 8, 16, 9, 12; bit r is cleared, and a server with q = 0 becomes spent at once
+unfoldable pub unlocking : Board → ℕ → Bool → ℕ → Outcome
+unlocking b i s r =
+    out (withSets b i (settled (figuresAt b i) (inState (lifeAt b i) (Ready s Free)) (b .clock)) (without (b .locked) r) (b .closed)) (answer.Done 0)
+
+unfoldable pub unlockWith : Bool → Lock → Board → ℕ → Outcome
+unlockWith s Free b i = refuse b 12
+unlockWith s (On r n) b i = unlocking b i s r
+
+unfoldable pub unlockReady : Bool → Lock → Board → ℕ → Outcome
+unlockReady s k b i = pick (not (isSlot (named b) i)) (refuse b 9) (unlockWith s k b i)
+
 unfoldable pub unlockIn : State → Board → ℕ → Outcome
-unlockIn (Ready s (On r n)) b i =
-    pick (isSlot (named b) i)
-    (out (next b (set (b .lives) i (settled (figuresAt b i) (inState (lifeAt b i) (Ready s Free)) (b .clock))) (b .clock) (without (b .locked) r) (b .closed))
-    (answer.Done 0))
-    (refuse b 9)
-unlockIn (Ready s Free) b i = pick (isSlot (named b) i) (refuse b 12) (refuse b 9)
+unlockIn (Ready s k) b i = unlockReady s k b i
 unlockIn Idle b i = refuse b 9
 unlockIn (Suspended t) b i = refuse b 9
 unlockIn Spent b i = refuse b 9

@@ -8,6 +8,7 @@ use Rattle.terms.specs.Words.{pick, some, list}
 use Rattle.quantity.specs.declared.Length.{Length}
 use Rattle.quantity.specs.Quantity.{ticks, later, longestRun, clockEnd}
 use Rattle.resources.specs.Resources.{with, without}
+use Rattle.timing.specs.declared.Figures.{Figures}
 use Rattle.timing.specs.declared.Life.{Life}
 use Rattle.timing.specs.declared.State.{State}
 use Rattle.timing.specs.declared.State.the-variants.{Idle, Ready, Suspended, Spent, Stopped}
@@ -24,7 +25,7 @@ use Rattle.board.specs.declared.Reason.{Reason}
 use Rattle.board.specs.declared.Reason.the-variants.{Whole, Changed, Reached}
 use Rattle.board.specs.declared.Ticked.{Ticked}
 use Rattle.board.specs.declared.Ran.{Ran}
-use Rattle.board.specs.Board.{figuresAt, lifeAt, next, out, named}
+use Rattle.board.specs.Board.{figuresAt, lifeAt, next, withSets, out, named}
 use Rattle.board.specs.Calls.{refuse}
 
 -- somebody's instant has come
@@ -32,9 +33,11 @@ unfoldable pub anyDue : Board → Bool
 anyDue b = some (λ i. due (lifeAt b i) (b .clock)) slots
 
 -- servers whose instant has come are replenished
+abbrev pub wokenAt : Board → ℕ → Life
+wokenAt b i = woken (figuresAt b i) (lifeAt b i) (b .clock)
+
 unfoldable pub roused : Board → Board
-roused b =
-    pick (anyDue b) (next b (list (λ i. woken (figuresAt b i) (lifeAt b i) (b .clock)) slots) (b .clock) (b .locked) (b .closed)) b
+roused b = pick (anyDue b) (next b (list (wokenAt b) slots) (b .clock) (b .locked) (b .closed)) b
 
 -- the named server's tick: 1 from its q, 1 to its held count if it holds, started; the clock moves by 1; then it may be spent
 unfoldable pub worked : Board → ℕ → Board
@@ -47,16 +50,19 @@ unfoldable pub paused : Board → Board
 paused b = next b (b .lives) (later (b .clock) (ticks 1)) (b .locked) (b .closed)
 
 -- what a tick of m ends: its budget without a lock (spent, perhaps replenished at once), or its hold is reached
-abbrev pub reachedIn : State → Board → ℕ → Reason
-reachedIn (Ready s Free) b m = pick (eqb (ran (lifeAt b m) .left .0) 0) Changed Whole
-reachedIn (Ready s (On r n)) b m = pick (eqb (hold (figuresAt b m) r .0) (n .0)) Reached Whole
-reachedIn Idle b m = Whole
-reachedIn (Suspended t) b m = Whole
-reachedIn Spent b m = Whole
-reachedIn Stopped b m = Whole
+unfoldable pub reachedWith : Lock → Figures → Length → Reason
+reachedWith Free f left = pick (eqb (left .0) 0) Changed Whole
+reachedWith (On r n) f left = pick (eqb (hold f r .0) (n .0)) Reached Whole
+
+abbrev pub reachedIn : State → Figures → Length → Reason
+reachedIn (Ready s k) f left = reachedWith k f left
+reachedIn Idle f left = Whole
+reachedIn (Suspended t) f left = Whole
+reachedIn Spent f left = Whole
+reachedIn Stopped f left = Whole
 
 unfoldable pub reached : Board → ℕ → Reason
-reached b m = reachedIn (ran (lifeAt b m) .state) b m
+reached b m = reachedIn (ran (lifeAt b m) .state) (figuresAt b m) (ran (lifeAt b m) .left)
 
 -- one tick: the board after it, and whether it ends a run and why; a replenishment is a change too
 unfoldable pub tickedTo : Board → Reason → Ticked
@@ -81,30 +87,27 @@ ranFrom b k (suc n) =
     pick (goesOn (ticked b .reason)) (ranFrom (ticked b .board) (k + 1) n)
     (record { board = ticked b .board; ticks = k + 1; reason = ticked b .reason })
 
--- the named server holds r and has run H(r) ticks since it locked: it is stopped, r is closed for good and unlocked
-unfoldable pub overheldIn : State → Board → ℕ → Bool
-overheldIn (Ready s (On r n)) b m = leb (hold (figuresAt b m) r .0) (n .0)
-overheldIn (Ready s Free) b m = false
-overheldIn Idle b m = false
-overheldIn (Suspended t) b m = false
-overheldIn Spent b m = false
-overheldIn Stopped b m = false
-
-unfoldable pub stoppedIn : State → Board → ℕ → Board
-stoppedIn (Ready s (On r n)) b m = next b (set (b .lives) m (inState (lifeAt b m) Stopped)) (b .clock) (without (b .locked) r) (with (b .closed) r)
-stoppedIn (Ready s Free) b m = b
-stoppedIn Idle b m = b
-stoppedIn (Suspended t) b m = b
-stoppedIn Spent b m = b
-stoppedIn Stopped b m = b
-
 unfoldable pub passes : Board → ℕ → Outcome
 passes b n = out (ranFrom b 0 n .board) (answer.Done (ranFrom b 0 n .ticks))
 
+-- the named server holds r and has run H(r) ticks since it locked: it is stopped with q and d kept, r is closed for good and unlocked
+unfoldable pub stopping : Board → ℕ → ℕ → Outcome
+stopping b m r = out (withSets b m (inState (lifeAt b m) Stopped) (without (b .locked) r) (with (b .closed) r)) answer.Overheld
+
+unfoldable pub runWith : Lock → Board → ℕ → ℕ → Outcome
+runWith Free b m n = passes b n
+runWith (On r k) b m n = pick (leb (hold (figuresAt b m) r .0) (k .0)) (stopping b m r) (passes b n)
+
+unfoldable pub runIn : State → Board → ℕ → ℕ → Outcome
+runIn (Ready s k) b m n = runWith k b m n
+runIn Idle b m n = passes b n
+runIn (Suspended t) b m n = passes b n
+runIn Spent b m n = passes b n
+runIn Stopped b m n = passes b n
+
 unfoldable pub runBy : Board → Choice → ℕ → Outcome
 runBy b Nobody n = passes b n
-runBy b (Slot m) n =
-    pick (overheldIn (lifeAt b m .state) b m) (out (stoppedIn (lifeAt b m .state) b m) answer.Overheld) (passes b n)
+runBy b (Slot m) n = runIn (lifeAt b m .state) b m n
 
 -- run: 1, 17, 18
 unfoldable pub runs : Board → ℕ → Outcome

@@ -2,7 +2,7 @@
 ghost use mathlib.Core.Path.{_≡_};
 ghost use Prim.Native.Nat.{ℕ, _<_};
 ghost use Rattle.board.specs.declared.Choice.the-variants.{Slot};
-ghost use Rattle.board.specs.Calls.{refuse, fresh, blank, opened, commissioning, vacancy, withTable, admittedAs, admittedIn, admitted, started};
+ghost use Rattle.board.specs.Calls.{fresh, blank, opened, commissioning, vacancy, withTable, admittedAs, admittedIn, admitted, started};
 use crate::Answer;
 use crate::Board;
 use crate::Choice;
@@ -31,16 +31,6 @@ fn vacancy(table: [Figures; 16]) -> Choice
 }
 
 impl Board {
-    // The board as it is, and the number of the rule that was broken.
-    fn refuse(self, number: u8) -> Outcome
-        ensures { λ r. ⌜ r ≡ refuse self number ⌝ }
-    {
-        Outcome {
-            board: self,
-            answer: Answer::Refused(number),
-        }
-    }
-
     // A board with a frame and nothing else.
     fn fresh(frame: Length) -> Board
         ensures { λ r. ⌜ r ≡ fresh frame ⌝ }

@@ -1,10 +1,13 @@
 // The board: one processor, up to 16 servers, 8 shared resources and a clock in whole ticks.
 ghost use mathlib.Core.Path.{_≡_};
-ghost use Rattle.board.specs.Board.{numberOf, valueOf, withLife, lower, clears};
+ghost use Rattle.board.specs.Board.{numberOf, valueOf, withLife, withSets, lower, clears, isSlot};
 ghost use Prim.Native.Nat.{_<_};
+ghost use Rattle.board.specs.Calls.{refuse};
 
 mod calls;
 mod name;
+mod run;
+mod serve;
 
 use quantity::Instant;
 use quantity::Length;
@@ -126,6 +129,16 @@ impl Ceiling {
 }
 
 impl Board {
+    // The board as it is, and the number of the rule that was broken.
+    fn refuse(self, number: u8) -> Outcome
+        ensures { λ r. ⌜ r ≡ refuse self number ⌝ }
+    {
+        Outcome {
+            board: self,
+            answer: Answer::Refused(number),
+        }
+    }
+
     // The board with another life in a slot.
     fn with_life(self, slot: usize, l: Life) -> Board
         requires { ⌜ slot < 16 ⌝ }
@@ -134,5 +147,31 @@ impl Board {
         let mut b = self;
         b.lives[slot] = l;
         b
+    }
+}
+
+impl Board {
+    // The board with another life in a slot and other sets.
+    fn with_sets(self, slot: usize, l: Life, locked: Set, closed: Set) -> Board
+        requires { ⌜ slot < 16 ⌝ }
+        ensures { λ r. ⌜ r ≡ withSets self slot l locked closed ⌝ }
+    {
+        let mut b = self;
+        b.lives[slot] = l;
+        b.locked = locked;
+        b.closed = closed;
+        b
+    }
+}
+
+impl Choice {
+    // Whether this is the slot.
+    fn is_slot(self, slot: usize) -> bool
+        ensures { λ r. ⌜ r ≡ isSlot self slot ⌝ }
+    {
+        match self {
+            Choice::Nobody => false,
+            Choice::Slot(s) => s == slot,
+        }
     }
 }

@@ -3,7 +3,7 @@ ghost use mathlib.Core.Path.{_≡_};
 ghost use Prim.Native.Nat.{ℕ, _<_, _%_};
 ghost use lib.Dec.{eqb};
 ghost use Rattle.board.specs.declared.Choice.the-variants.{Slot};
-ghost use Rattle.board.specs.Board.{standsIn, first, usesIn, ceilingOf, ceiling, mayGo, namedBy, named, isSlot};
+ghost use Rattle.board.specs.Board.{standsIn, first, usesIn, ceilingOf, ceiling, mayGo, namedBy, named};
 ghost use Rattle.board.specs.Steps.{keeps, betterOf, bestOf, userCeiling, ceilingStep};
 use crate::Best;
 use crate::Board;
@@ -189,18 +189,6 @@ impl Board {
         match first {
             Choice::Nobody => Choice::Nobody,
             Choice::Slot(f) => self.named_by(f),
-        }
-    }
-}
-
-impl Choice {
-    // Whether this is the slot.
-    fn is_slot(self, slot: usize) -> bool
-        ensures { λ r. ⌜ r ≡ isSlot self slot ⌝ }
-    {
-        match self {
-            Choice::Nobody => false,
-            Choice::Slot(s) => s == slot,
         }
     }
 }

@@ -4,13 +4,13 @@ use mathlib.Core.Path.{_≡_, refl, sym, subst, _∙_}
 use mathlib.Core.Logic.{_⊎_, inl, inr, ⊎-elim}
 use mathlib.Core.Bool.{Bool, true, false, _&&_, _||_}
 use mathlib.Core.List.{[], _∷_}
-use lib.ListN.{length, getD, length-append, List·getD-append}
-use lib.Seq.{getD-at}
+use lib.ListN.{length, getD, length-append, length-set, length-replicate, List·getD-append}
+use lib.Seq.{getD-at, getD-set-same, getD-set-other, ext-getD}
 use native.Mathlib.Omega.{arith}
 use native.Mathlib.Nat.{eq-or-lt-of-le, le-of-suc-le-suc, max-le, max-eq-left, max-eq-right, le-max-left, le-max-right}
 use native.Mathlib.Numerals.{add-one}
 use native.Mathlib.Decide.{decLe}
-use Rattle.terms.specs.Words.{sum, largest, every, some, list}
+use Rattle.terms.specs.Words.{sum, largest, every, some, list, filled}
 use Rattle.terms.proofs.Tests.{not-both, true-or-false, and-in, and-left, and-right, or-left, or-right, or-out}
 
 -- below n + 1: n itself, or below n
@@ -112,3 +112,23 @@ module _ {A : Type 0} (f : ℕ → A) where
   list-at (suc n) j d h =
       ⊎-elim (λ (e : j ≡ n). rw e (getD-at (list f n) (f n) [] d n (list-length n)))
       (λ (l : j < n). List·getD-append (list f n) (f n ∷ []) d j (rw list-length l) ∙ list-at n j d l) (last-or-below h)
+
+-- all of them set is the list
+module _ {A : Type 0} (d : A) (m : ℕ) (f : ℕ → A) where
+  filled-length : (n : ℕ) → length (filled d m f n) ≡ m
+  unfolding filled
+  filled-length zero = length-replicate m d
+  filled-length (suc n) = rw (length-set, filled-length n)
+
+  filled-at : (n j : ℕ) → j < n → j < m → getD (filled d m f n) j d ≡ f j
+  unfolding filled
+  filled-at zero j h l = absurd (omega arith)
+  filled-at (suc n) j h l =
+      ⊎-elim (λ (e : j ≡ n). rw e (getD-set-same (filled d m f n) n (f n) d (rw filled-length (omega arith))))
+      (λ (k : j < n). getD-set-other (filled d m f n) n j (f n) d (λ e. omega arith) ∙ filled-at n j k l) (last-or-below h)
+
+  pub filled-list : filled d m f m ≡ list f m
+  filled-list =
+      ext-getD d (filled d m f m) (list f m) (filled-length m ∙ sym (list-length f m)) (λ i l.
+      let k : i < m = rw filled-length at l in
+      filled-at m i k k ∙ sym (list-at f m i d k))

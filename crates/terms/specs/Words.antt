@@ -2,6 +2,7 @@
 use Prim.Native.Nat.{ℕ, zero, suc, _+_, max}
 use mathlib.Core.Bool.{Bool, true, false, _&&_, _||_}
 use mathlib.Core.List.{List, [], _∷_, _++_}
+use lib.ListN.{replicate, set}
 
 -- an if
 abbrev pub pick : {A : Type 0} → Bool → A → A → A
@@ -37,3 +38,8 @@ some f (suc n) = some f n || f n
 unfoldable pub list : {A : Type 0} → (ℕ → A) → ℕ → List A
 list f zero = []
 list f (suc n) = list f n ++ (f n ∷ [])
+
+-- m times d, of which the first n are set one by one to f 0, f 1, ..
+unfoldable pub filled : {A : Type 0} → A → ℕ → (ℕ → A) → ℕ → List A
+filled d m f zero = replicate m d
+filled d m f (suc n) = set (filled d m f n) n (f n)
