@@ -1,0 +1,10 @@
+pub mod Decimal
+pub mod Fields
+pub mod Table
+pub mod Whole
+pub mod Spelling
+pub mod Bytes
+pub mod Blocks
+pub mod Cutting
+pub mod Through
+pub mod Borders

@@ -1,0 +1,3 @@
+pub mod Commissioned
+pub mod Sheet
+pub mod Steps
