@@ -1,0 +1,10 @@
+pub mod Events
+pub mod Table
+pub mod Board
+pub mod Step
+pub mod Demand
+pub mod Invariant
+pub mod Reached
+pub mod History
+pub mod Base
+pub mod Parted
