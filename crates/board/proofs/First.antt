@@ -17,7 +17,7 @@ use Rattle.board.specs.declared.Best.{Best}
 use Rattle.board.specs.declared.Choice.the-variants.{Nobody, Slot}
 use Rattle.board.specs.Board.{lifeAt, stands, precedes, isFirst, first, seek}
 use Rattle.board.specs.Steps.{keeps, betterOf, bestOf, chosen}
-use Rattle.board.proofs.Search.{search-none, search-only, search-out, search-nobody}
+use Rattle.board.proofs.Search.{no-slot, search-none, search-only, search-out, search-nobody}
 
 module _ (b : Board) (s : Bool) where
   abbrev dueAt : ℕ → ℕ
@@ -136,7 +136,7 @@ module _ (b : Board) (s : Bool) where
       (every-out (λ j. not (stands b s j) || (eqb j i || precedes b i j)) slots (and-right (stands b s i) _ e) j l)))
 
   -- there is only one first
-  only : (i j : ℕ) → i < slots → j < slots → isFirst b s i ≡ true → isFirst b s j ≡ true → j ≡ i
+  pub only : (i j : ℕ) → i < slots → j < slots → isFirst b s i ≡ true → isFirst b s j ≡ true → j ≡ i
   unfolding Leads
   only i j k l e f =
       go (first-leads i e j l (first-stands j f)) (first-leads j f i k (first-stands i e))
@@ -165,6 +165,14 @@ module _ (b : Board) (s : Bool) where
       go true e =
           let f = first-in (p .slot) (h .one e) (h .leads e) in
           rw e (search-only (isFirst b s) slots (p .slot) (h .below e) f (λ j l g. only (p .slot) j (h .below e) l f g))
+
+  -- with nobody first, nobody stands
+  pub first-none : first b s ≡ Nobody → (j : ℕ) → j < slots → stands b s j ≡ false
+  first-none e j l = go (bestOf b s slots .any) refl
+    where
+      go : (a : Bool) → bestOf b s slots .any ≡ a → stands b s j ≡ false
+      go false q = best-is slots .none q j l
+      go true q = absurd (no-slot (sym e ∙ simp q at first-is))
 
   pub first-below : (i : ℕ) → first b s ≡ Slot i → i < slots
   unfolding first

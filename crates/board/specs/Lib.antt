@@ -2,3 +2,4 @@ pub mod Board
 pub mod Calls
 pub mod Run
 pub mod Steps
+pub mod Machine

@@ -1,21 +1,21 @@
 -- What admission states, for the crates above: each follows from the definitions by taking their tests apart.
-use Prim.Native.Nat.{ℕ, _+_, _*_, _/_, _<_, _≤_}
+use Prim.Native.Nat.{ℕ, zero, suc, _+_, _-_, _*_, _/_, _<_, _≤_}
 use mathlib.Core.Path.{_≡_, refl, ap, _∙_}
 use mathlib.Core.Logic.{_⊎_, inl, inr, ⊎-elim, _≢_}
 use mathlib.Core.Bool.{Bool, true, false, not, _&&_, _||_}
 use mathlib.Core.List.{List}
 use native.Mathlib.Omega.{arith}
-use native.Mathlib.Nat.{mul-le-mul-right}
+use native.Mathlib.Nat.{mul-le-mul-right, add-zero, add-suc}
 use native.Mathlib.Decide.{decLe}
 use lib.Dec.{ltb, leb}
 use borrow.Author.Tests.{lt-ltb, ltb-true, le-leb, leb-true, eq-eqb, ne-eqb, not-true}
-use Rattle.terms.specs.Words.{when, largest}
-use Rattle.terms.proofs.Over.{largest-upper, largest-one, every-in, every-out, some-in, some-out}
+use Rattle.terms.specs.Words.{when, sum, largest}
+use Rattle.terms.proofs.Over.{sum-le, largest-upper, largest-one, every-in, every-out, some-in, some-out}
 use Rattle.terms.proofs.Tests.{not-both, true-or-false, and-in, and-left, and-right, or-right, or-left, or-out}
 use Rattle.quantity.specs.declared.Length.{Length}
 use Rattle.timing.specs.declared.Figures.{Figures}
 use Rattle.timing.specs.Timing.Laws.{hold-outside}
-use Rattle.admission.specs.Admission.{slots, slotOf, inTable, periodOf, holdOf, load, used, longestWait, Ranges, fitsAt, passes}
+use Rattle.admission.specs.Admission.{slots, slotOf, inTable, periodOf, budgetOf, holdOf, load, used, longestWait, Ranges, fitsAt, passes}
 
 module _ (t : List Figures) where
   -- a slot is in the table exactly if its period is not 0
@@ -110,3 +110,23 @@ module _ (t : List Figures) where
     ADM e k h b i w =
         let m : h ≤ longestWait t (periodOf t k) = ⊎-elim (λ z. omega arith) (λ r. wait-upper (periodOf t k) h r) w in
         omega (arith, passes-out e k b i, mul-le-mul-right (l / periodOf t k) m)
+
+-- the load is at least the parts of the servers in the slots below n
+sum-more : (f : ℕ → ℕ) (n k : ℕ) → sum f n ≤ sum f (n + k)
+unfolding sum
+sum-more f n zero = rw add-zero (omega arith)
+sum-more f n (suc k) = rw add-suc (omega (arith, sum-more f n k))
+
+pub load-parts : (t : List Figures) (l p n : ℕ) → n ≤ slots → ((i : ℕ) → i < n → inTable t i ≡ true)
+    → sum (λ i. when (leb (periodOf t i) p) (budgetOf t i * (l / periodOf t i))) n ≤ load t l p
+unfolding load
+load-parts t l p n h here =
+    let e : n + (slots - n) ≡ slots = omega arith in
+    omega (
+      arith,
+      sum-le n (λ i. when (leb (periodOf t i) p) (budgetOf t i * (l / periodOf t i)))
+          (λ i. when (inTable t i && leb (periodOf t i) p) (budgetOf t i * (l / periodOf t i)))
+          (λ i k. omega (arith, ap (λ (b : Bool). when (b && leb (periodOf t i) p) (budgetOf t i * (l / periodOf t i))) (here i k))),
+      sum-more (λ i. when (inTable t i && leb (periodOf t i) p) (budgetOf t i * (l / periodOf t i))) n (slots - n),
+      ap (λ (m : ℕ). sum (λ i. when (inTable t i && leb (periodOf t i) p) (budgetOf t i * (l / periodOf t i))) m) e,
+    )
