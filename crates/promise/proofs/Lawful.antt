@@ -1,15 +1,13 @@
 -- A table that admission let pass is lawful for the argument of promise 3: the load, the waits and the ranges are the same in its words.
-use Prim.Native.Nat.{ℕ, _+_, _*_, _/_, _<_, _≤_}
+use Prim.Native.Nat.{ℕ, _*_, _/_, _<_, _≤_}
 use mathlib.Core.Path.{_≡_, refl}
 use mathlib.Core.Logic.{_⊎_, inl, inr}
 use mathlib.Core.Bool.{true}
 use mathlib.Core.List.{List}
 use native.Mathlib.Omega.{arith}
-use lib.Dec.{leb}
-use Rattle.terms.specs.Words.{when, sum}
 use Rattle.timing.specs.declared.Figures.{Figures}
 use Rattle.timing.specs.Timing.{Ranged}
-use Rattle.admission.specs.Admission.{slots, slotOf, inTable, periodOf, budgetOf, holdOf, load, passes, Ranges}
+use Rattle.admission.specs.Admission.{slots, slotOf, periodOf, budgetOf, holdOf, load, passes, Ranges}
 use Rattle.admission.specs.Admission.Laws.{ADM, load-parts}
 use Rattle.sheet.proofs.Standing.{Standing}
 use Rattle.guarantee.specs.Table.{Table, Lawful, Wait, nobody, holder}
