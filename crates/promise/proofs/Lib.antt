@@ -1,2 +1,4 @@
 pub mod Lawful
 pub mod Commissioning
+pub mod Walk
+pub mod Table
