@@ -4,7 +4,6 @@ ghost use lib.ListN.{length};
 ghost use mathlib.Core.Path.{_≡_};
 use board::Board;
 use libc::STDIN_FILENO;
-use libc::STDOUT_FILENO;
 use lines::Line;
 
 // The board, how many bytes of output wait, how many bytes of a line are held, and whether input may follow.
@@ -15,32 +14,14 @@ struct Page {
     more: bool,
 }
 
-// What waits is written.
-fn flush(out: &[u8], used: usize)
-    requires { ⌜ used ≤ length (now out) ⌝ }
-{
-    io::write_all(STDOUT_FILENO, &out[..used]);
-}
-
-// The longest answer's line has 49 bytes: where fewer than 64 are free, what waits is written first.
-fn with_room(out: &[u8], used: usize) -> usize
-    requires { ⌜ used ≤ length (now out) ⌝ }
-    ensures { λ r. ⌜ r ≤ length (now (out .entry)) ⌝ }
-{
-    if out.len() - used < 64 {
-        flush(out, used);
-        return 0;
-    }
-    used
-}
-
 // One line served; its answer waits in the buffer.
 fn answer(page: Page, line: Line, out: &mut [u8], count: usize) -> Page
     requires { ⌜ page .used ≤ length (now out) ⌝ }
     ensures within { λ r. ⌜ r .used ≤ length (now (out .entry)) ⌝ }
     ensures holds { λ r. ⌜ r .count ≡ count ⌝ }
 {
-    let used = with_room(out, page.used);
+    // The longest answer's line has 49 bytes: where fewer than 64 are free, what waits is written first.
+    let used = output::with_room(out, page.used, 64);
     let board = page.board;
     let told = desk::serve(board, line);
     let next = told.board;
@@ -139,7 +120,7 @@ fn serve(block: &mut [u8], held: &mut [u8], out: &mut [u8]) {
     let p = blocks(begin, block, held, out);
     let s = lines::last(held, p.count);
     let q = step(p, s, out);
-    flush(out, q.used);
+    output::flush(out, q.used);
 }
 
 fn main() {

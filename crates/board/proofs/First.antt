@@ -1,13 +1,12 @@
 -- The code's best slot is the first by deadline, then by slot: it goes up the slots and changes only for an earlier deadline.
 use Prim.Native.Nat.{ℕ, zero, suc, _<_, _≤_}
-use mathlib.Core.Path.{_≡_, refl, sym, ap, subst, _∙_}
+use mathlib.Core.Path.{_≡_, refl, sym, ap, _∙_}
 use mathlib.Core.Logic.{_⊎_, inl, inr, ⊎-elim}
 use mathlib.Core.Bool.{Bool, true, false, not, _&&_, _||_}
 use native.Mathlib.Omega.{arith}
 use native.Mathlib.Decide.{ℕ-discrete, decLe}
 use lib.Dec.{ltb, eqb}
-use borrow.Author.Tests.{ltb-true, ltb-false, lt-ltb, le-ltb, eq-eqb, ne-eqb, eqb-true, not-true, not-false}
-use Rattle.terms.specs.Words.{pick, every}
+use borrow.Author.Tests.{ltb-true, ltb-false, lt-ltb, eq-eqb, eqb-true, not-true, not-false}
 use Rattle.terms.proofs.Over.{last-or-below, every-in, every-out}
 use Rattle.terms.proofs.Tests.{not-both, true-or-false, and-in, and-left, and-right, or-left, or-right, or-out}
 use Rattle.quantity.specs.Quantity.{before}
@@ -17,14 +16,14 @@ use Rattle.board.specs.declared.Best.{Best}
 use Rattle.board.specs.declared.Choice.the-variants.{Nobody, Slot}
 use Rattle.board.specs.Board.{lifeAt, stands, precedes, isFirst, first, seek}
 use Rattle.board.specs.Steps.{keeps, betterOf, bestOf, chosen}
-use Rattle.board.proofs.Search.{no-slot, search-none, search-only, search-out, search-nobody}
+use Rattle.board.proofs.Search.{no-slot, search-none, search-only, search-out}
 
 module _ (b : Board) (s : Bool) where
   abbrev dueAt : ℕ → ℕ
   dueAt j = lifeAt b j .deadline .0
 
   -- i is at or before j in the order
-  pub Leads : ℕ → ℕ → Type 0
+  unfoldable pub Leads : ℕ → ℕ → Type 0
   Leads i j = (dueAt i < dueAt j) ⊎ ((dueAt i ≡ dueAt j) × (i ≤ j))
 
   -- p is the first of the slots below n

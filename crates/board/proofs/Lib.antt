@@ -3,6 +3,14 @@ pub mod First
 pub mod Lowest
 pub mod Ticks
 pub mod Determined
+pub mod Walk
 pub mod Refusal
 pub mod Running
 pub mod Named
+pub mod Lower
+pub mod Ceilings
+pub mod Stays
+pub mod Ones
+pub mod Overheld
+pub mod Commissions
+pub mod Loop

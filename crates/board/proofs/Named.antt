@@ -28,9 +28,9 @@ started-ready Stopped e = e
 
 -- i is the first of the ready servers, or of the started ones
 pub record First-of (b : Board) (s : Bool) (i : ℕ) : Type 0 where
-  below : i < slots
-  one : stands b s i ≡ true
-  leads : (j : ℕ) → j < slots → stands b s j ≡ true → Leads b s i j
+  pub below : i < slots
+  pub one : stands b s i ≡ true
+  pub leads : (j : ℕ) → j < slots → stands b s j ≡ true → Leads b s i j
 
 module _ (b : Board) (s : Bool) where
   pub first-found : (i : ℕ) → first b s ≡ Slot i → First-of b s i
@@ -53,10 +53,10 @@ module _ (b : Board) (s : Bool) where
 
 module _ (b : Board) where
   -- slot f may go, or is held back by the ceiling
-  pub Goes : ℕ → Type 0
+  unfoldable pub Goes : ℕ → Type 0
   Goes f = (isStarted (lifeAt b f .state) ≡ true) ⊎ (clears (figuresAt b f .period) (ceiling b) ≡ true)
 
-  pub Held : ℕ → Type 0
+  unfoldable pub Held : ℕ → Type 0
   Held f = (isStarted (lifeAt b f .state) ≡ false) × (clears (figuresAt b f .period) (ceiling b) ≡ false)
 
   goes-out : (f : ℕ) → mayGo b f ≡ true → Goes f

@@ -5,8 +5,7 @@ use mathlib.Core.Bool.{Bool, true, false, not, _&&_}
 use native.Mathlib.Omega.{arith}
 use lib.Dec.{ltb, leb}
 use borrow.Author.Tests.{leb-true, ltb-false, not-false}
-use Rattle.terms.specs.Words.{pick}
-use Rattle.terms.proofs.Tests.{either, and-left}
+use Rattle.terms.proofs.Tests.{either, by-test, and-left}
 use Rattle.quantity.specs.Quantity.{ticks, later, lastInstant, longestRun, clockEnd}
 use Rattle.quantity.proofs.Laws.{later-exact}
 use Rattle.timing.specs.declared.State.{State}
@@ -27,14 +26,14 @@ use Rattle.board.proofs.Ticks.{whole-if, ran-on, ran-event, ran-whole}
 
 -- what r says of n ticks from b, of which k have passed before
 pub record Passed (b : Board) (k n : ℕ) (r : Ran) : Type 0 where
-  count : ℕ
-  counted : r .ticks ≡ k + count
-  at-most : count ≤ n
-  at-least : 1 ≤ n → 1 ≤ count
-  singly : r .board ≡ single b count
-  went-on : (j : ℕ) → j + 1 < count → goesOn (ticked (single b j) .reason) ≡ true
-  last-is : (j : ℕ) → count ≡ j + 1 → r .reason ≡ ticked (single b j) .reason
-  short : count < n → goesOn (r .reason) ≡ false
+  pub count : ℕ
+  pub counted : r .ticks ≡ k + count
+  pub at-most : count ≤ n
+  pub at-least : 1 ≤ n → 1 ≤ count
+  pub singly : r .board ≡ single b count
+  pub went-on : (j : ℕ) → j + 1 < count → goesOn (ticked (single b j) .reason) ≡ true
+  pub last-is : (j : ℕ) → count ≡ j + 1 → r .reason ≡ ticked (single b j) .reason
+  pub short : count < n → goesOn (r .reason) ≡ false
 
 pub passed : (b : Board) (k n : ℕ) → Passed b k n (ranFrom b k n)
 unfolding single
@@ -141,12 +140,12 @@ module _ (b : Board) (k n : ℕ) where
 
 -- what an outcome says of a run of n that was not refused and stopped nobody
 pub record Ran-so (b : Board) (n : ℕ) (o : Outcome) : Type 0 where
-  at-most : valueOf (o .answer) ≤ n
-  at-least : 1 ≤ valueOf (o .answer)
-  singly : o .board ≡ single b (valueOf (o .answer))
-  clock-is : o .board .clock .0 ≡ b .clock .0 + valueOf (o .answer)
-  went-on : (j : ℕ) → j + 1 < valueOf (o .answer) → goesOn (ticked (single b j) .reason) ≡ true
-  ended : (j : ℕ) → valueOf (o .answer) ≡ j + 1 → j + 1 < n → goesOn (ticked (single b j) .reason) ≡ false
+  pub at-most : valueOf (o .answer) ≤ n
+  pub at-least : 1 ≤ valueOf (o .answer)
+  pub singly : o .board ≡ single b (valueOf (o .answer))
+  pub clock-is : o .board .clock .0 ≡ b .clock .0 + valueOf (o .answer)
+  pub went-on : (j : ℕ) → j + 1 < valueOf (o .answer) → goesOn (ticked (single b j) .reason) ≡ true
+  pub ended : (j : ℕ) → valueOf (o .answer) ≡ j + 1 → j + 1 < n → goesOn (ticked (single b j) .reason) ≡ false
 
 module _ (b : Board) (n : ℕ) (low : 1 ≤ n) (high : b .clock .0 + n ≤ clockEnd) where
   -- answered with number 0
@@ -189,12 +188,10 @@ module _ (b : Board) (n : ℕ) (low : 1 ≤ n) (high : b .clock .0 + n ≤ clock
 pub run-is-ticks : (b : Board) (n : ℕ) → numberOf (runs b n .answer) ≡ 0 → Ran-so b n (runs b n)
 unfolding runs
 run-is-ticks b n =
-    told (not (b .running)) (λ t z. absurd (omega arith)) (λ t.
-    told (not (leb 1 n && leb n longestRun)) (λ u z. absurd (omega arith)) (λ u.
-    told (ltb clockEnd (b .clock .0 + n)) (λ v z. absurd (omega arith)) (λ v.
+    by-test Told (not (b .running)) (λ t z. absurd (omega arith)) (λ t.
+    by-test Told (not (leb 1 n && leb n longestRun)) (λ u z. absurd (omega arith)) (λ u.
+    by-test Told (ltb clockEnd (b .clock .0 + n)) (λ v z. absurd (omega arith)) (λ v.
     run-by b n (leb-true 1 n (and-left (leb 1 n) (leb n longestRun) (not-false _ u))) (ltb-false clockEnd (b .clock .0 + n) v) (named b))))
   where
-    told : (t : Bool) {x y : Outcome} → (t ≡ true → numberOf (x .answer) ≡ 0 → Ran-so b n x) → (t ≡ false → numberOf (y .answer) ≡ 0 → Ran-so b n y)
-        → numberOf (pick t x y .answer) ≡ 0 → Ran-so b n (pick t x y)
-    told true p q = p refl
-    told false p q = q refl
+    Told : Outcome → Type 0
+    Told o = numberOf (o .answer) ≡ 0 → Ran-so b n o

@@ -1,16 +1,15 @@
 -- A seek finds the first number that passes: by going from n to n + 1.
-use Prim.Native.Nat.{ℕ, zero, suc, _+_, _<_, _≤_}
-use mathlib.Core.Path.{_≡_, refl, sym, ap, _∙_}
-use mathlib.Core.Logic.{_⊎_, inl, inr, ⊎-elim}
+use Prim.Native.Nat.{ℕ, zero, suc, _+_, _<_}
+use mathlib.Core.Path.{_≡_, refl, sym}
+use mathlib.Core.Logic.{⊎-elim}
 use mathlib.Core.Bool.{Bool, true, false}
 use native.Mathlib.Omega.{arith}
 use native.Mathlib.Numerals.{add-one}
-use Rattle.terms.specs.Words.{pick}
 use Rattle.terms.proofs.Over.{last-or-below}
-use Rattle.terms.proofs.Tests.{not-both, true-or-false}
+use Rattle.terms.proofs.Tests.{true-or-false}
 use Rattle.board.specs.declared.Choice.{Choice}
 use Rattle.board.specs.declared.Choice.the-variants.{Nobody, Slot}
-use Rattle.board.specs.Board.{orElse, seek}
+use Rattle.board.specs.Board.{seek}
 
 -- a slot is not nobody, and two slots that are equal have one number
 pub no-slot : {i : ℕ} → Nobody ≡ Slot i → ⊥

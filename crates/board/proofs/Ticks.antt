@@ -1,10 +1,9 @@
 -- A run, one tick at a time: what the definition says of one tick more.
-use Prim.Native.Nat.{ℕ, zero, suc, _+_}
+use Prim.Native.Nat.{ℕ, suc, _+_}
 use mathlib.Core.Path.{_≡_, refl}
 use mathlib.Core.Bool.{true, false}
 use Rattle.terms.proofs.Tests.{not-both}
 use Rattle.board.specs.declared.Board.{Board}
-use Rattle.board.specs.declared.Ran.{Ran}
 use Rattle.board.specs.declared.Reason.{Reason}
 use Rattle.board.specs.declared.Reason.the-variants.{Whole, Changed, Reached}
 use Rattle.board.specs.Run.{goesOn, ticked, ranFrom}

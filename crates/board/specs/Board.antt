@@ -1,20 +1,20 @@
 -- The board, and who runs (document 01, "The board and what it leaves out", "Who runs", "Answer numbers").
-use Prim.Native.Nat.{ℕ, zero, suc, min}
+use Prim.Native.Nat.{ℕ, zero, suc}
 use mathlib.Core.Bool.{Bool, true, false, not, _&&_, _||_}
 use mathlib.Core.List.{List}
-use lib.ListN.{getD, set, replicate}
-use lib.Dec.{ltb, leb, eqb}
+use lib.ListN.{getD, set}
+use lib.Dec.{ltb, eqb}
 use Rattle.terms.specs.Words.{pick, every}
 use Rattle.quantity.specs.declared.Instant.{Instant}
 use Rattle.quantity.specs.declared.Length.{Length}
-use Rattle.quantity.specs.Quantity.{at, ticks, before, below}
+use Rattle.quantity.specs.Quantity.{below}
 use Rattle.resources.specs.declared.Set.{Set}
 use Rattle.resources.specs.Resources.{has}
 use Rattle.timing.specs.declared.Figures.{Figures}
 use Rattle.timing.specs.declared.Life.{Life}
 use Rattle.timing.specs.declared.State.{State}
 use Rattle.timing.specs.Timing.{begun, present, isReady, isStarted, hold}
-use Rattle.admission.specs.Admission.{slots, slotOf, inTable}
+use Rattle.admission.specs.Admission.{slots, slotOf}
 use Rattle.board.specs.declared.Board.{Board}
 use Rattle.board.specs.declared.Outcome.{Outcome}
 use Rattle.board.specs.declared.Answer.{Answer}

@@ -1,16 +1,15 @@
 -- The calls, each with its checks in document 01's order.
 use Prim.Native.Nat.{ℕ}
-use mathlib.Core.Bool.{Bool, true, false, not, _&&_, _||_}
+use mathlib.Core.Bool.{Bool, true, false, not, _&&_}
 use mathlib.Core.List.{List}
-use lib.ListN.{getD, set, replicate}
-use lib.Dec.{ltb, leb, eqb}
+use lib.ListN.{replicate}
+use lib.Dec.{leb, eqb}
 use Rattle.terms.specs.Words.{pick}
 use Rattle.quantity.specs.declared.Length.{Length}
 use Rattle.quantity.specs.Quantity.{at, ticks, lengthOf, largestFrame}
 use Rattle.resources.specs.declared.Set.{Set}
 use Rattle.resources.specs.Resources.{has, with, without}
 use Rattle.timing.specs.declared.Figures.{Figures}
-use Rattle.timing.specs.declared.Life.{Life}
 use Rattle.timing.specs.declared.Ruled.{Ruled}
 use Rattle.timing.specs.declared.Ruling.{Ruling}
 use Rattle.timing.specs.declared.Ruling.the-variants as ruling

@@ -3,3 +3,4 @@ pub mod Calls
 pub mod Run
 pub mod Steps
 pub mod Machine
+pub mod Events

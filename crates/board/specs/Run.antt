@@ -1,7 +1,6 @@
 -- Running (document 01, "Running"): one tick, and run n as that many single ticks up to the first event.
 use Prim.Native.Nat.{ℕ, zero, suc, _+_}
-use mathlib.Core.Bool.{Bool, true, false, not, _&&_, _||_}
-use mathlib.Core.List.{List}
+use mathlib.Core.Bool.{Bool, true, false, not, _&&_}
 use lib.ListN.{set}
 use lib.Dec.{ltb, leb, eqb}
 use Rattle.terms.specs.Words.{pick, some, list}

@@ -65,7 +65,7 @@ pub enum Reason {
     Reached,
 }
 
-// One tick: the board after it, and whether it ends a run.
+// One tick, as the definition `ticked` says it: the board after it, and whether it ends a run.
 pub struct Ticked {
     pub board: Board,
     pub reason: Reason,

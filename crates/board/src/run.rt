@@ -1,23 +1,84 @@
-// Running: one tick, and a run as that many ticks up to the first event.
+// Running: a run is single ticks up to the first event; its loop changes one life and the clock.
 ghost use mathlib.Core.Path.{_≡_};
 ghost use Prim.Native.Nat.{ℕ, _<_, _≤_};
 ghost use Rattle.terms.specs.Words.{list};
-ghost use Rattle.board.specs.declared.Choice.the-variants.{Slot};
+ghost use Rattle.board.specs.declared.Choice.the-variants.{Nobody, Slot};
 ghost use Rattle.board.specs.Board.{lifeAt, named};
-ghost use Rattle.board.specs.Run.{anyDue, wokenAt, roused, worked, paused, reachedWith, reached, tickedTo, tickedBy, ticked, goesOn, ranFrom, passes, stopping, runWith, runIn, runBy, runs};
+ghost use Rattle.board.specs.Run.{anyDue, wokenAt, roused, reachedWith, reachedIn, goesOn, ranFrom, passes, stopping, runWith, runIn, runBy, runs};
+ghost use Rattle.board.specs.Steps.{waitIn, earlier, hasCome, waitOf, endedBy, ranTo};
 use crate::Answer;
 use crate::Board;
 use crate::Choice;
 use crate::Outcome;
 use crate::Ran;
 use crate::Reason;
-use crate::Ticked;
 use quantity::Instant;
 use quantity::Length;
 use timing::Figures;
 use timing::Life;
 use timing::Lock;
 use timing::State;
+
+// The instant that somebody waits for, or none.
+pub enum Wait {
+    Never,
+    Until(Instant),
+}
+
+impl Wait {
+    fn earlier(self, other: Wait) -> Wait
+        ensures { λ r. ⌜ r ≡ earlier self other ⌝ }
+    {
+        match self {
+            Wait::Never => other,
+            Wait::Until(t) => match other {
+                Wait::Never => self,
+                Wait::Until(s) => { if s.is_before(t) { other } else { self } }
+            },
+        }
+    }
+
+    fn has_come(self, now: Instant) -> bool
+        ensures { λ r. ⌜ r ≡ hasCome self now ⌝ }
+    {
+        match self {
+            Wait::Never => false,
+            Wait::Until(t) => !now.is_before(t),
+        }
+    }
+}
+
+// What a server waits for.
+fn wait_of(l: Life) -> Wait
+    ensures { λ r. ⌜ r ≡ waitIn (l .state) l ⌝ }
+{
+    let state = l.state;
+    let d = l.deadline;
+    match state {
+        State::Suspended(t) => Wait::Until(t),
+        State::Spent => Wait::Until(d),
+        State::Idle => Wait::Never,
+        State::Ready {
+            started: _,
+            lock: _,
+        } => Wait::Never,
+        State::Stopped => Wait::Never,
+    }
+}
+
+// The first instant that any server waits for.
+fn first_wait(lives: [Life; 16]) -> Wait
+    ensures { λ r. ⌜ r ≡ waitOf lives 16 ⌝ }
+{
+    let mut wait = Wait::Never;
+    let mut i = 0;
+    while i < 16 {
+        let l = lives[i];
+        wait = wait.earlier(wait_of(l));
+        i += 1;
+    }
+    wait
+}
 
 impl Reason {
     // The run goes on after the tick.
@@ -32,7 +93,7 @@ impl Reason {
     }
 }
 
-// A tick without a lock ends the budget that it leaves at 0; one with a lock may reach the hold.
+// Without a lock a tick that leaves no budget ends the run; with one, a tick at which the held count reaches the hold.
 fn reach_with(lock: Lock, f: Figures, left: Length) -> Reason
     ensures { λ r. ⌜ r ≡ reachedWith lock f left ⌝ }
 {
@@ -53,6 +114,30 @@ fn reach_with(lock: Lock, f: Figures, left: Length) -> Reason
             }
         }
     }
+}
+
+// What a tick ends, by the life after it.
+fn reach(l: Life, f: Figures) -> Reason
+    ensures { λ r. ⌜ r ≡ reachedIn (l .state) f (l .left) ⌝ }
+{
+    let state = l.state;
+    match state {
+        State::Ready { started: _, lock } => reach_with(lock, f, l.left),
+        State::Idle => Reason::Whole,
+        State::Suspended(_) => Reason::Whole,
+        State::Spent => Reason::Whole,
+        State::Stopped => Reason::Whole,
+    }
+}
+
+// Why a run ends with a tick, if it does: a replenishment is a change too.
+fn end_by(l: Life, f: Figures, wait: Wait, now: Instant) -> Reason
+    ensures { λ r. ⌜ r ≡ endedBy l f wait now ⌝ }
+{
+    if wait.has_come(now) {
+        return Reason::Changed;
+    }
+    reach(l, f)
 }
 
 impl Board {
@@ -106,112 +191,91 @@ impl Board {
         self
     }
 
-    // The clock moves by 1, and nothing else.
-    fn pause(self) -> Board
-        ensures { λ r. ⌜ r ≡ paused self ⌝ }
+    // The end of a run: the tick that ended it replenishes whose instant has come; where no event did, nobody's has.
+    fn end_run(self, ticks: u64, reason: Reason) -> Ran
+        ensures { λ r. ⌜ r ≡ ranTo self ticks reason ⌝ }
     {
-        let now = self.clock.plus(Length(1));
-        let mut b = self;
-        b.clock = now;
-        b
-    }
-
-    // A tick of the named server, without the replenishments after it.
-    fn work(self, m: usize) -> Board
-        requires { ⌜ m < 16 ⌝ }
-        ensures { λ r. ⌜ r ≡ worked self m ⌝ }
-    {
-        let f = self.table[m];
-        let l = self.lives[m];
-        let now = self.clock.plus(Length(1));
-        let after = l.tick();
-        let life = after.settle(f, now);
-        let mut b = self;
-        b.lives[m] = life;
-        b.clock = now;
-        b
-    }
-
-    // What a tick of slot m ends, by its state after the tick.
-    fn reach(self, m: usize) -> Reason
-        requires { ⌜ m < 16 ⌝ }
-        ensures { λ r. ⌜ r ≡ reached self m ⌝ }
-    {
-        let l = self.lives[m];
-        let after = l.tick();
-        let f = self.table[m];
-        let state = after.state;
-        match state {
-            State::Ready { started: _, lock } => reach_with(lock, f, after.left),
-            State::Idle => Reason::Whole,
-            State::Suspended(_) => Reason::Whole,
-            State::Spent => Reason::Whole,
-            State::Stopped => Reason::Whole,
-        }
-    }
-
-    // The replenishments that end a tick.
-    fn tick_to(self, why: Reason) -> Ticked
-        ensures { λ r. ⌜ r ≡ tickedTo self why ⌝ }
-    {
-        let b = self.rouse();
-        if self.any_due() {
-            return Ticked {
-                board: b,
-                reason: Reason::Changed,
+        if reason.goes_on() {
+            return Ran {
+                board: self,
+                ticks,
+                reason,
             };
         }
-        Ticked {
-            board: b,
-            reason: why,
+        let board = self.rouse();
+        Ran {
+            board,
+            ticks,
+            reason,
         }
     }
 
-    fn tick_of(self, m: usize) -> Ticked
-        requires { ⌜ m < 16 ⌝ }
-        ensures { λ r. ⌜ r ≡ tickedBy self (Slot m) ⌝ }
-    {
-        let why = self.reach(m);
-        let b = self.work(m);
-        b.tick_to(why)
-    }
-
-    fn tick(self) -> Ticked
-        ensures { λ r. ⌜ r ≡ ticked self ⌝ }
-    {
-        let m = self.named();
-        match m {
-            Choice::Nobody => {
-                let b = self.pause();
-                b.tick_to(Reason::Whole)
-            }
-            Choice::Slot(s) => self.tick_of(s),
-        }
-    }
-
-    // Ticks pass until there are n of them or one ends the run.
-    fn advance(self, n: u64) -> Ran
+    // Nobody is named: only the clock moves, until somebody's instant comes.
+    fn pause(self, n: u64) -> Ran
+        requires { ⌜ named self ≡ Nobody ⌝ }
         ensures { λ r. ⌜ r ≡ ranFrom self 0 n ⌝ }
     {
-        let mut board = self;
+        let lives = self.lives;
+        let wait = first_wait(lives);
+        let mut now = self.clock;
+        let mut pauses: u64 = 0;
+        let mut reason = Reason::Whole;
+        loop {
+            if n <= pauses {
+                break;
+            }
+            now = now.plus(Length(1));
+            pauses += 1;
+            if wait.has_come(now) {
+                reason = Reason::Changed;
+                break;
+            }
+        }
+        let mut b = self;
+        b.clock = now;
+        b.end_run(pauses, reason)
+    }
+
+    // Slot m is named, and stays so: only its life and the clock change, until a tick ends the run.
+    fn work(self, m: usize, n: u64) -> Ran
+        requires { ⌜ named self ≡ Slot m ⌝ }
+        requires { ⌜ m < 16 ⌝ }
+        ensures { λ r. ⌜ r ≡ ranFrom self 0 n ⌝ }
+    {
+        let lives = self.lives;
+        let wait = first_wait(lives);
+        let f = self.table[m];
+        let mut life = lives[m];
+        let mut now = self.clock;
         let mut ticks: u64 = 0;
         let mut reason = Reason::Whole;
         loop {
             if n <= ticks {
                 break;
             }
-            let t = board.tick();
-            board = t.board;
-            reason = t.reason;
+            now = now.plus(Length(1));
+            let after = life.tick();
+            reason = end_by(after, f, wait, now);
+            life = after.settle(f, now);
             ticks += 1;
             if !reason.goes_on() {
                 break;
             }
         }
-        Ran {
-            board,
-            ticks,
-            reason,
+        let mut b = self;
+        b.lives[m] = life;
+        b.clock = now;
+        b.end_run(ticks, reason)
+    }
+
+    // Ticks pass until there are n of them or one ends the run.
+    fn advance(self, n: u64) -> Ran
+        ensures { λ r. ⌜ r ≡ ranFrom self 0 n ⌝ }
+    {
+        let m = self.named();
+        match m {
+            Choice::Nobody => self.pause(n),
+            Choice::Slot(s) => self.work(s, n),
         }
     }
 

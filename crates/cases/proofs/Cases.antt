@@ -1,21 +1,19 @@
 -- Document 01, "Either side of the line": C1 to C10, one list under one claim. L = 60, server X is P 10, Q 4, H(0) 2.
 use Prim.Native.Nat.{ℕ}
-use mathlib.Core.Path.{_≡_, refl}
-use mathlib.Core.Bool.{Bool, true, false, _&&_}
+use mathlib.Core.Bool.{Bool, true, _&&_}
 use mathlib.Core.List.{List, [], _∷_}
 use lib.Dec.{T, eqb}
-use lib.ListN.{replicate, set}
+use lib.ListN.{replicate}
 use Rattle.terms.specs.Words.{sum, largest, every, some, list}
 use Rattle.quantity.specs.Quantity.{at, ticks, lengthOf, later}
 use Rattle.timing.specs.declared.Figures.{Figures}
 use Rattle.timing.specs.declared.Life.{Life}
-use Rattle.timing.specs.declared.State.the-variants.{Idle, Ready}
+use Rattle.timing.specs.declared.State.the-variants.{Ready}
 use Rattle.timing.specs.declared.Lock.the-variants.{Free}
 use Rattle.timing.specs.Timing.{hold, tr, arrived, asked, lacking}
 use Rattle.timing.specs.Timing.Text.{tr-is, replenished-is, arrived-is, asked-is, largestHold-is}
 use Rattle.admission.specs.Admission.{figuresOf, judged, placed, periodFits, budgetFits, holdsFit, nobody}
 use Rattle.admission.specs.Admission.Text.{load-is, used-is, longestWait-is, passes-is, judged-is}
-use Rattle.timing.specs.declared.Ruled.{Ruled}
 use Rattle.timing.specs.declared.Ruling.{Ruling}
 use Rattle.timing.specs.declared.Ruling.the-variants as ruling
 

@@ -6,7 +6,7 @@ use mathlib.Core.List.{[], _∷_}
 use mathlib.Core.Bool.{Bool, true, false}
 use native.Mathlib.Omega.{arith}
 use Rattle.terms.specs.Words.{sum}
-use Rattle.guarantee.specs.Events.{Ran, Replenished}
+use Rattle.events.specs.Events.{Ran, Replenished}
 use Rattle.guarantee.specs.Table.{Table, Lawful, Wait, nobody, holder, load}
 use Rattle.guarantee.specs.Board.{free, on, View, idle, ready, State, Ready, Started, Before, Named, starts, instead}
 use Rattle.guarantee.specs.Step.{none, takes, same, arrives, granted, holds, Settled, Step, call, tick}

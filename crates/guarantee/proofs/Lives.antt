@@ -5,7 +5,8 @@ use mathlib.Core.Logic.{_≢_, ⊎-elim}
 use mathlib.Core.List.{List, _∷_, _++_}
 use native.Mathlib.Omega.{arith}
 use native.Mathlib.Nat.{le-refl}
-use Rattle.guarantee.specs.Events.{Event, Ran, Replenished, ticks, lastStart, Life, ends, ran, made, other}
+use Rattle.events.specs.Events.{Event, Ran, Replenished, ticks, lastStart}
+use Rattle.guarantee.specs.Life.{Life, ends, ran, made, other}
 use Rattle.guarantee.specs.Table.{Table, Lawful}
 use Rattle.guarantee.specs.Board.{View, State, deadline, budget, part, Owes}
 use Rattle.guarantee.specs.Step.{Locking, Quiet, same, wakes, refills, Change, quiet, arrives-later, arrives, done, done-spent, granted, lock-later, lock-renewed, unlocks, unlocks-spent, unlocks-renewed, overheld, Ticks, works, ends as last, holds, Others, Step, call, tick, pause}

@@ -1,4 +1,4 @@
-pub mod Events
+pub mod Life
 pub mod Table
 pub mod Board
 pub mod Step

@@ -41,7 +41,7 @@ module _ (t : Table) where
     pub M-pos : 0 < t .M
     pub Q-pos : {i : ℕ} → i < t .n → 0 < t .Q i
     pub H-le : {i : ℕ} → i < t .n → (r : ℕ) → t .H i r ≤ t .Q i
-    -- A0 to A4, the timing rules
+    -- A0, A1, A2, A4 and A5, the timing rules
     pub A0 : {i : ℕ} → i < t .n → (q z d : ℕ) → t .Q i * d + t .rest i q z d ≤ t .Q i * t .tr i q z d + z + q * t .P i
     pub A1 : {i : ℕ} → i < t .n → (q z d : ℕ) → q ≤ t .Q i → z ≤ t .slop i → d ≤ t .tr i q z d + t .P i
     pub A2 : {i : ℕ} → i < t .n → (z d : ℕ) → z ≤ t .slop i → (t .tr i 0 z d ≡ d) × (t .rest i 0 z d ≡ z)

@@ -3,6 +3,7 @@ pub mod Fields
 pub mod Table
 pub mod Whole
 pub mod Spelling
+pub mod Fits
 pub mod Bytes
 pub mod Blocks
 pub mod Cutting

@@ -5,6 +5,7 @@ use mathlib.Core.Logic.{_⊎_, inl, inr}
 use mathlib.Core.Bool.{true}
 use mathlib.Core.List.{List}
 use native.Mathlib.Omega.{arith}
+use Rattle.quantity.specs.Quantity.{largestFrame}
 use Rattle.timing.specs.declared.Figures.{Figures}
 use Rattle.timing.specs.Timing.{Ranged}
 use Rattle.admission.specs.Admission.{slots, slotOf, periodOf, budgetOf, holdOf, load, passes, Ranges}
@@ -19,6 +20,7 @@ use Rattle.guarantee.proofs.Base as base
 pub record Kept (n l : ℕ) (t : List Figures) : Type 0 where
   pub standing : Standing n t
   pub frame-pos : 0 < l
+  pub frame-high : l ≤ largestFrame
   pub ranged : (k : ℕ) → k < n → Ranged (slotOf t k)
   pub divides : (k : ℕ) → k < n → l / periodOf t k * periodOf t k ≡ l
   pub passed : passes t l ≡ true
@@ -60,6 +62,6 @@ module _ (n l : ℕ) (t : List Figures) where
           omega (arith, load-same (periodOf t k), ADM t l (w .passed) k h (slot b) (w .standing .servers k b) (wait-same (periodOf t k) h z));
     }
 
-    -- the argument's laws, A0 to A4, ADM and K3 to K5, of our table
+    -- the argument's laws of our table
     pub lawful-table : Lawful tableOf
     lawful-table = base.lawful l n (periodOf t) (budgetOf t) (holdOf t) admitted-table

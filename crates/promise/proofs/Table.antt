@@ -16,7 +16,7 @@ use Rattle.resources.specs.declared.Set.{Set}
 use Rattle.sheet.specs.Commissioned.{Commissioned}
 use Rattle.sheet.specs.Sheet.{sheetFor, readOf, accepted}
 use Rattle.sheet.proofs.ReadBack.{read-back-any}
-use Rattle.promise.proofs.Walk.{arrive-walk, done-walk, lock-walk, unlock-walk, run-walk}
+use Rattle.board.proofs.Walk.{arrive-walk, done-walk, lock-walk, unlock-walk, run-walk}
 
 -- the same frame and table
 abbrev pub Same : Board → Board → Type 0

@@ -1,17 +1,18 @@
 -- What a set says after insert and remove, and that equal sets are equal numbers: the laws of bits, read of sets.
-use Prim.Native.Nat.{ℕ, _*_, _/_, _%_, _^_, _<_, _≤_}
-use mathlib.Core.Path.{_≡_, refl, ap}
+use Prim.Native.Nat.{ℕ, _+_, _*_, _/_, _%_, _^_, _<_, _≤_}
+use mathlib.Core.Path.{_≡_, refl, sym, ap}
 use mathlib.Core.Logic.{_≢_, ⊎-elim}
 use mathlib.Core.Bool.{true, false}
-use borrow.Author.Tests.{lt-ltb}
+use borrow.Author.Tests.{lt-ltb, ltb-true}
 use native.Mathlib.Omega.{arith}
 use lib.Dec.{ltb, eqb}
-use lib.Pow.{pow-pos}
-use native.Mathlib.Nat.{div-lt-iff-lt-mul}
-use Rattle.terms.proofs.Tests.{true-or-false}
+use lib.Pow.{pow-pos, pow-add}
+use lib.Bits.{or-lt}
+use native.Mathlib.Nat.{div-lt-iff-lt-mul, pow-le-pow-right}
+use Rattle.terms.proofs.Tests.{true-or-false, either, by-test}
 use Rattle.resources.specs.declared.Set.{Set}
-use Rattle.resources.specs.Resources.{resources, bit, has, with, without}
-use Rattle.resources.proofs.Bits.{set-same, set-other, clear-same, clear-other, same-bits, no-bit}
+use Rattle.resources.specs.Resources.{resources, bit, clearBit, has, with, without}
+use Rattle.resources.proofs.Bits.{set-same, set-other, clear-same, clear-other, same-bits, no-bit, or-is}
 
 pub with-same : (s : Set) (r : ℕ) → r < resources → has (with s r) r ≡ true
 unfolding has with
@@ -54,3 +55,19 @@ lt-pow x r e =
 pub has-beyond : (s : Set) (r j : ℕ) → s .0 / 2 ^ r ≡ 0 → r ≤ j → has s j ≡ false
 unfolding has
 has-beyond s r j e l = no-bit r (s .0) j (lt-pow (s .0) r e) l
+
+-- eight bits stay eight bits
+pub with-range : (s : Set) (r : ℕ) → s .0 < 2 ^ resources → with s r .0 < 2 ^ resources
+unfolding with
+with-range s r h =
+    by-test (λ (t : Set). t .0 < 2 ^ resources) (ltb r resources) (λ e. rw (sym (or-is (s .0) r)) (or-lt resources (s .0) (2 ^ r) h (below (ltb-true _ _ e)))) (λ e. h)
+  where
+    below : r < resources → 2 ^ r < 2 ^ resources
+    below l =
+        let two : 1 ≤ 2 = omega arith in
+        let k : r + 1 ≤ resources = omega arith in
+        omega (arith, pow-le-pow-right two k, pow-add 2 r 1, pow-pos r)
+
+pub without-range : (s : Set) (r : ℕ) → s .0 < 2 ^ resources → without s r .0 < 2 ^ resources
+unfolding without clearBit
+without-range s r h = either (λ (n : ℕ). n < 2 ^ resources) (bit (s .0) r) (omega arith) h

@@ -33,7 +33,7 @@ use Rattle.sheet.specs.Commissioned.{Commissioned, opening, admission}
 use Rattle.sheet.proofs.Answers.{answered-refused, answered-done, onward-refused, onward-next, read-good, read-bad}
 use Rattle.sheet.proofs.Bodies.{body-kept}
 use Rattle.sheet.proofs.Standing.{Standing, standing-empty, standing-with, slot-same, slot-other, vacant-at, bodies-all}
-use Rattle.sheet.proofs.Calls.{number, open-done, Done, admit-done}
+use Rattle.board.proofs.Commissions.{number, open-done, Done, admit-done}
 
 -- an answer 0 comes of a call that is done, and of nothing refused before
 answered-zero : (o : Outcome) (tag : ℕ) → answered o tag .number ≡ 0 → number o ≡ 0

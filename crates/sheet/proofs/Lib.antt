@@ -1,7 +1,6 @@
 pub mod Accepted
 pub mod Answers
 pub mod Bodies
-pub mod Calls
 pub mod Laws
 pub mod Numbers
 pub mod Phase

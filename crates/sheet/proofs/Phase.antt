@@ -18,7 +18,7 @@ use Rattle.sheet.specs.declared.Reading.{Reading}
 use Rattle.sheet.specs.Sheet.{refusedAt, tagAt, bodyAt, entered, answered, onward, readFirst, readOf}
 use Rattle.sheet.specs.Commissioned.{Commissioned, opening, admission}
 use Rattle.sheet.proofs.Answers.{answered-refused, onward-refused, onward-next, read-good}
-use Rattle.sheet.proofs.Calls.{number, open-low, open-done, admit-done}
+use Rattle.board.proofs.Commissions.{number, open-low, open-done, admit-done}
 use Rattle.sheet.proofs.Accepted.{made}
 use Rattle.sheet.proofs.ReadBack.{no-gap}
 

@@ -36,7 +36,7 @@ use Rattle.sheet.proofs.Answers.{answered-done, onward-next, read-good}
 use Rattle.sheet.proofs.Laws.{body-length}
 use Rattle.sheet.proofs.Numbers.{word-back, period-back, budget-back, hold-back}
 use Rattle.sheet.proofs.Standing.{Standing, standing-empty, standing-with, slot-same, slot-other, vacant-at, bodies-all}
-use Rattle.sheet.proofs.Calls.{number, open-done, open-any, Done, admit-done}
+use Rattle.board.proofs.Commissions.{number, open-done, open-any, Done, admit-done}
 
 -- a body that figures were written as leads to the admission that they came from
 module _ (b : Board) (p q : ℕ) (hs : List ℕ) (n : ℕ) (eight : length hs ≡ 8) (a : Admitted (b .table) n (b .frame .0) p q hs (figuresOf p q hs)) where

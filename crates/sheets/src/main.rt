@@ -4,7 +4,6 @@ ghost use lib.ListN.{length};
 ghost use mathlib.Core.Path.{_≡_};
 use board::Board;
 use libc::STDIN_FILENO;
-use libc::STDOUT_FILENO;
 
 // How many bytes of output wait; of the line, how many digits came, the last of them, and whether all is well; whether input may follow.
 struct Page {
@@ -13,25 +12,6 @@ struct Page {
     high: u8,
     good: bool,
     more: bool,
-}
-
-// What waits is written.
-fn flush(out: &[u8], used: usize)
-    requires { ⌜ used ≤ length (now out) ⌝ }
-{
-    io::write_all(STDOUT_FILENO, &out[..used]);
-}
-
-// The longest line of output has 1,401 bytes: where fewer than 2,048 are free, what waits is written first.
-fn with_room(out: &[u8], used: usize) -> usize
-    requires { ⌜ used ≤ length (now out) ⌝ }
-    ensures { λ r. ⌜ r ≤ length (now (out .entry)) ⌝ }
-{
-    if out.len() - used < 2048 {
-        flush(out, used);
-        return 0;
-    }
-    used
 }
 
 fn put(out: &mut [u8], used: usize, byte: u8) -> usize
@@ -131,7 +111,8 @@ fn say(page: Page, bytes: &[u8], back: &mut [u8], out: &mut [u8]) -> usize
     requires { ⌜ page .used ≤ length (now out) ⌝ }
     ensures { λ r. ⌜ r ≤ length (now (out .entry)) ⌝ }
 {
-    let used = with_room(out, page.used);
+    // The longest line of output has 1,401 bytes: where fewer than 2,048 are free, what waits is written first.
+    let used = output::with_room(out, page.used, 2048);
     if !page.good {
         return put(out, used, b'-');
     }
@@ -296,7 +277,7 @@ fn serve(block: &mut [u8], bytes: &mut [u8], back: &mut [u8], out: &mut [u8]) {
     };
     let p = blocks(begin, block, bytes, back, out);
     let q = last(p, bytes, back, out);
-    flush(out, q.used);
+    output::flush(out, q.used);
 }
 
 fn main() {

@@ -49,6 +49,11 @@ pub either : {A : Type 0} (P : A → Type 0) (t : Bool) {x y : A} → P x → P 
 either P true p q = p
 either P false p q = q
 
+-- by a test, with what it says
+pub by-test : {A : Type 0} (P : A → Type 0) (t : Bool) {x y : A} → (t ≡ true → P x) → (t ≡ false → P y) → P (pick t x y)
+by-test P true f g = f refl
+by-test P false f g = g refl
+
 -- a test on what a callee gave is the test on what the callee's definition says
 pub test-of : {A : Type 0} {x y : A} {b v : Bool} (test : A → Bool) → b ≡ test x → x ≡ y → b ≡ v → test y ≡ v
 test-of test e q t = ap test (sym q) ∙ sym e ∙ t

@@ -10,7 +10,7 @@ use Rattle.sheets.proofs.say.Reads as reads
 use Rattle.sheets.proofs.say.Lts as lts
 use Rattle.sheets.proofs.answer.Reads as answer-reads
 use Rattle.sheets.proofs.put.Reads as put-reads
-use Rattle.sheets.proofs.with_room.Reads as with-room-reads
+use Rattle.output.proofs.with_room.Reads as with-room-reads
 
 with-room-requires : tie.Need-with-room-requires
 with-room-requires c κs = search needs

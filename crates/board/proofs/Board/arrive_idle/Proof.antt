@@ -1,10 +1,7 @@
 -- The arrival rule, its life put into the slot and its ruling answered.
 use mathlib.Core.Path.{ap, _∙_}
 use Rattle.board.specs.declared.Board.{Board}
-use Rattle.board.specs.declared.Outcome.{Outcome}
-use Rattle.timing.specs.declared.Ruling.{Ruling}
 use Rattle.timing.specs.declared.Ruled.{Ruled}
-use Rattle.timing.specs.declared.Life.{Life}
 use Rattle.board.specs.declared.Answer.{Answer}
 use Rattle.board.specs.Board.{withLife, out}
 use Rattle.board.specs.Calls.{answerTo, arrivedIn}

@@ -1,12 +1,10 @@
 -- After r turns the bits left are the locked number without its r lowest, and the ceiling is that of the locked among the first r.
 use Rattle.board.proofs.Lowest.{half-left, some-left}
 use native.Mathlib.Omega.{arith}
-use Prim.Native.Nat.{ℕ, _+_, _*_, _/_, _%_, _^_, _≤_, _<_, _-_}
+use Prim.Native.Nat.{ℕ, _+_, _/_, _%_, _^_, _≤_, _<_, _-_}
 use mathlib.Core.Path.{_≡_, refl, ap, _∙_, sym}
 use mathlib.Core.Bool.{Bool}
-use native.Mathlib.Nat.{div-div-eq-div-mul, div-eq-of-lt, pow-suc, pow-zero, div-one}
-use native.Mathlib.Numerals.{add-one}
-use native.Mathlib.Decide.{decLe}
+use native.Mathlib.Nat.{pow-zero, div-one}
 use lib.Dec.{eqb}
 use Rattle.board.specs.declared.Ceiling.{Ceiling}
 use Rattle.board.specs.declared.Ceiling.the-variants.{Absent}

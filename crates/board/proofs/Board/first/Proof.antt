@@ -1,8 +1,6 @@
 -- The best slot is the first, and there is none where no slot counts.
 use mathlib.Core.Path.{_≡_, sym, ap, _∙_}
-use Prim.Native.Nat.{ℕ}
-use Rattle.board.specs.declared.Best.{Best}
-use Rattle.board.specs.declared.Choice.the-variants.{Nobody, Slot}
+use Rattle.board.specs.declared.Choice.the-variants.{Slot}
 use Rattle.board.specs.Steps.{chosen}
 use Rattle.board.proofs.Search.{no-slot}
 use Rattle.board.proofs.First.{first-is, first-below}

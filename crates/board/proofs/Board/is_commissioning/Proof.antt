@@ -1,7 +1,6 @@
 -- By the two tests.
 use borrow.Author.Tests.{eq-eqb, ne-eqb}
 use Rattle.board.specs.Calls.{commissioning}
-use borrow.Author.Needs.{needs}
 use Rattle.board.proofs.Board.is_commissioning.Statement.{statement}
 use Rattle.board.proofs.Board.is_commissioning.Tie as tie
 use Rattle.board.proofs.Board.is_commissioning.Reads as reads

@@ -1,7 +1,6 @@
 -- The budget rule, its life put into the slot, its bit set and its ruling answered.
 use mathlib.Core.Path.{ap, _∙_}
 use Rattle.board.specs.declared.Board.{Board}
-use Rattle.timing.specs.declared.Life.{Life}
 use Rattle.resources.specs.declared.Set.{Set}
 use Rattle.timing.specs.declared.Ruled.{Ruled}
 use Rattle.board.specs.declared.Answer.{Answer}

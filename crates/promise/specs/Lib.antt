@@ -1,0 +1,5 @@
+pub mod History
+pub mod Reading
+pub mod Promise
+pub mod Ranges
+pub mod Runs
