@@ -6,7 +6,7 @@ use mathlib.Core.Bool.{Bool, true}
 use mathlib.Core.List.{List, _∷_, _++_}
 use native.Mathlib.Omega.{arith}
 use native.Mathlib.Decide.{decLt, decLe, ℕ-discrete}
-use lib.ListN.{length, length-set}
+use lib.ListN.{length, set, length-set}
 use lib.Seq.{getD-set-same, getD-set-other}
 use borrow.Author.Tests.{eq-eqb, ne-eqb}
 use Rattle.terms.proofs.Tests.{not-both}
@@ -71,21 +71,21 @@ module _ (n l : ℕ) (t : List Figures) (w : Kept n l t) (b : Board) (es : List 
       let I = sound (T n l t w) (lawful-table n l t w) (B .reached) in
       rw now-is (awaits j (lifeAt b j) (lifeAt b j .state) (I .inv .local j) (I .settled j))
 
-  -- the board c and the lives x between the tick and the replenishments
-  record Half (c : Board) (x : ℕ → Life) : Type 0 where
-    frame : c .frame ≡ b .frame
-    running : c .running ≡ b .running
-    table : c .table ≡ b .table
-    clock : c .clock ≡ now
-    locked : c .locked ≡ b .locked
-    closed : c .closed ≡ b .closed
-    long : length (c .lives) ≡ slots
+  -- the board when the clock has moved, with these lives in the code, and what they come to, before anybody is replenished
+  abbrev moment : List Life → Board
+  moment lives = next b lives now (b .locked) (b .closed)
+
+  record Half (lives : List Life) (x : ℕ → Life) : Type 0 where
+    long : length lives ≡ slots
     waits : (j : ℕ) → Awaits n l t w (x j .state) (x j) (now .0) j
     dates : (j : ℕ) → x j .deadline .0 ≤ now .0 + periodOf t j
-    after : (j : ℕ) → j < slots → woken (slotOf t j) (lifeAt c j) now ≡ woken (slotOf t j) (x j) now
+    after : (j : ℕ) → j < slots → woken (slotOf t j) (lifeAt (moment lives) j) now ≡ woken (slotOf t j) (x j) now
     beyond : (j : ℕ) → slots ≤ j → x j ≡ begun
 
-  module _ (c : Board) (x : ℕ → Life) (h : Half c x) where
+  module _ (lives : List Life) (x : ℕ → Life) (h : Half lives x) where
+    abbrev c : Board
+    c = moment lives
+
     -- the argument's board between them
     abbrev half : abstract.State
     half = record { now = now .0; view = λ j. viewOf (x j); locked = has (b .locked) }
@@ -98,11 +98,11 @@ module _ (n l : ℕ) (t : List Figures) (w : Kept n l t) (b : Board) (es : List 
         go (no z) =
             let k : j < slots = omega arith in
             roused-life c j k
-            ∙ ap (λ (f : Figures). woken f (lifeAt c j) (c .clock)) (ap (λ (y : List Figures). slotOf y j) (h .table ∙ B .table))
-            ∙ ap (λ (m : Instant). woken (slotOf t j) (lifeAt c j) m) (h .clock) ∙ h .after j k
+            ∙ ap (λ (f : Figures). woken f (lifeAt c j) (c .clock)) (ap (λ (y : List Figures). slotOf y j) (B .table))
+            ∙ h .after j k
 
     clock-after : roused c .clock .0 ≡ now .0
-    clock-after = ap (λ (i : Instant). i .0) (roused-keeps c (h .long) .3 ∙ h .clock)
+    clock-after = ap (λ (i : Instant). i .0) (roused-keeps c (h .long) .3)
 
     wake : (j : ℕ) → Wakes n l t w j (x j) now
     wake j = wakes n l t w j (x j) now (x j .state) refl (h .waits j) (omega (arith, now-is)) (h .dates j)
@@ -114,7 +114,7 @@ module _ (n l : ℕ) (t : List Figures) (w : Kept n l t) (b : Board) (es : List 
     all-settled j = rw (clock-after, ap viewOf (all-after j)) (wake j .settled)
 
     bits-after : (r : ℕ) → has (roused c .locked) r ≡ has (b .locked) r
-    bits-after r = ap (λ (i : Set). has i r) (roused-keeps c (h .long) .4 ∙ h .locked)
+    bits-after r = ap (λ (i : Set). has i r) (roused-keeps c (h .long) .4)
 
     -- what the slots tell
     told-same : inOrder (λ j. renewal j (x j) now) n ≡ renewals x now slots
@@ -128,13 +128,13 @@ module _ (n l : ℕ) (t : List Figures) (w : Kept n l t) (b : Board) (es : List 
     bound-after fs (step, says) =
         let k = roused-keeps c (h .long) in
         record {
-          frame = ap (λ (x : Length). x .0) (k .0 ∙ h .frame) ∙ B .frame;
-          runs = k .1 ∙ h .running ∙ B .runs;
-          table = k .2 ∙ h .table ∙ B .table;
+          frame = ap (λ (x : Length). x .0) (k .0) ∙ B .frame;
+          runs = k .1 ∙ B .runs;
+          table = k .2 ∙ B .table;
           long = k .6;
           clock = omega (arith, clock-after, now-is);
-          locked = rw (k .4 ∙ h .locked) (B .locked);
-          closed = rw (k .5 ∙ h .closed) (B .closed);
+          locked = rw (k .4) (B .locked);
+          closed = rw (k .5) (B .closed);
           dates = λ j. rw (clock-after, all-after j) (wake j .date);
           reached = reached.next (B .reached) step;
           told = ap₂ (λ (p q : List Event). p ++ q) (B .told) says;
@@ -144,19 +144,13 @@ module _ (n l : ℕ) (t : List Figures) (w : Kept n l t) (b : Board) (es : List 
   pub pause-bound : named b ≡ Nobody → Bound n l t w (roused (paused b)) (es ++ renewals (lifeAt b) now slots)
   unfolding paused
   pause-bound e =
-      let (step, says) = pauses (T n l t w) (look b) (half (paused b) (lifeAt b) between) (look (roused (paused b))) (λ j. renewal j (lifeAt b j) now)
-      (each (paused b) (lifeAt b) between) now-is (λ r. refl) (clock-after (paused b) (lifeAt b) between) (bits-after (paused b) (lifeAt b) between)
-      (all-settled (paused b) (lifeAt b) between) (names-nobody n l t w b (B .table) (B .long) (B .reached) e) (λ j. refl) in
-      bound-after (paused b) (lifeAt b) between _ (step, says ∙ told-same (paused b) (lifeAt b) between)
+      let (step, says) = pauses (T n l t w) (look b) (half (b .lives) (lifeAt b) between) (look (roused (paused b))) (λ j. renewal j (lifeAt b j) now)
+      (each (b .lives) (lifeAt b) between) now-is (λ r. refl) (clock-after (b .lives) (lifeAt b) between) (bits-after (b .lives) (lifeAt b) between)
+      (all-settled (b .lives) (lifeAt b) between) (names-nobody n l t w b (B .table) (B .long) (B .reached) e) (λ j. refl) in
+      bound-after (b .lives) (lifeAt b) between _ (step, says ∙ told-same (b .lives) (lifeAt b) between)
     where
-      between : Half (paused b) (lifeAt b)
+      between : Half (b .lives) (lifeAt b)
       between = record {
-        frame = refl;
-        running = refl;
-        table = refl;
-        clock = refl;
-        locked = refl;
-        closed = refl;
         long = B .long;
         waits = before;
         dates = λ j. omega (arith, B .dates j, now-is);
@@ -252,15 +246,13 @@ module _ (n l : ℕ) (t : List Figures) (w : Kept n l t) (b : Board) (es : List 
         go (no ne) = ap (λ (y : Life). woken (slotOf t j) y now)
             (getD-set-other (b .lives) m j (settled (figuresAt b m) (ran x) now) begun ne ∙ sym (at-other j ne))
 
-    worked-between : Tick → (s : Bool) (k : Lock) → x .state ≡ Ready s k → m < slots → Half (worked b m) (ranLives b m)
+    -- the lives as the code has them: m's settled at once
+    abbrev workedLives : List Life
+    workedLives = set (b .lives) m (settled (figuresAt b m) (ran x) now)
+
+    worked-between : Tick → (s : Bool) (k : Lock) → x .state ≡ Ready s k → m < slots → Half workedLives (ranLives b m)
     unfolding worked
     worked-between r s k e slot = record {
-      frame = refl;
-      running = refl;
-      table = refl;
-      clock = refl;
-      locked = refl;
-      closed = refl;
       long = length-set (b .lives) m (settled (figuresAt b m) (ran x) now) ∙ B .long;
       waits = each-life (λ j y. Awaits n l t w (y .state) y (now .0) j) (r .waiting) before;
       dates = each-life (λ j y. y .deadline .0 ≤ now .0 + periodOf t j) (r .dated) (λ j. omega (arith, B .dates j, now-is));
@@ -271,15 +263,15 @@ module _ (n l : ℕ) (t : List Figures) (w : Kept n l t) (b : Board) (es : List 
     tick-by : Tick → (s : Bool) (k : Lock) → x .state ≡ Ready s k → m < slots → Bound n l t w (roused (worked b m)) (es ++ Ran m ∷ renewals (ranLives b m) now slots)
     unfolding worked
     tick-by r s k e slot =
-        let c = worked b m in
+        let lives = workedLives in
         let y = ranLives b m in
-        let (step, says) = ticks-of (T n l t w) (look b) (half c y between) (look (roused c)) (λ j. renewal j (y j) now)
-        (each c y between) now-is (λ i. refl) (clock-after c y between) (bits-after c y between)
-        (all-settled c y between) m (names n l t w b (B .table) (B .long) m name) (subst (λ (q : Life). Ticks (T n l t w) m (viewOf x) (viewOf q)) (sym at-m) (r .ticked))
+        let (step, says) = ticks-of (T n l t w) (look b) (half lives y between) (look (roused (worked b m))) (λ j. renewal j (y j) now)
+        (each lives y between) now-is (λ i. refl) (clock-after lives y between) (bits-after lives y between)
+        (all-settled lives y between) m (names n l t w b (B .table) (B .long) m name) (subst (λ (q : Life). Ticks (T n l t w) m (viewOf x) (viewOf q)) (sym at-m) (r .ticked))
         (λ j ne. ap viewOf (at-other j ne)) in
-        bound-after c y between _ (step, says ∙ ap (λ (q : List Event). Ran m ∷ q) (told-same c y between))
+        bound-after lives y between _ (step, says ∙ ap (λ (q : List Event). Ran m ∷ q) (told-same lives y between))
       where
-        between : Half (worked b m) (ranLives b m)
+        between : Half workedLives (ranLives b m)
         between = worked-between r s k e slot
 
   -- somebody is named, and does not hold for longer than it may
