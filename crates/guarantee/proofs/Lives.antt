@@ -1,4 +1,4 @@
--- Demand 3, statement 2: on every board that is reached, each server has run within its share.
+-- Promise 3, statement 2: on every board that is reached, each server has run within its share.
 use Prim.Native.Nat.{ℕ, zero, suc, _+_, _*_, _≤_, _<_}
 use mathlib.Core.Path.{_≡_, refl, sym, subst}
 use mathlib.Core.Logic.{_≢_, ⊎-elim}
@@ -7,9 +7,12 @@ use native.Mathlib.Omega.{arith}
 use native.Mathlib.Nat.{le-refl}
 use Rattle.events.specs.Events.{Event, Ran, Replenished, ticks, lastStart}
 use Rattle.guarantee.specs.Life.{Life, ends, ran, made, other}
-use Rattle.guarantee.specs.Table.{Table, Lawful}
+use Rattle.guarantee.specs.Table.{Table, Present}
+use Rattle.guarantee.specs.Lawful.{Lawful}
 use Rattle.guarantee.specs.Board.{View, State, deadline, budget, part, Owes}
-use Rattle.guarantee.specs.Step.{Locking, Quiet, same, wakes, refills, Change, quiet, arrives-later, arrives, done, done-spent, granted, lock-later, lock-renewed, unlocks, unlocks-spent, unlocks-renewed, overheld, Ticks, works, ends as last, holds, Others, Step, call, tick, pause}
+use Rattle.guarantee.specs.Step.{Locking, Quiet, same, wakes, refills, Change, quiet, arrives-later, arrives, done, done-spent, granted, lock-later}
+use Rattle.guarantee.specs.Step.{lock-renewed, unlocks, unlocks-spent, unlocks-renewed, overheld, Ticks, works, ends as last, holds, Others, Step, call}
+use Rattle.guarantee.specs.Step.{tick, pause}
 use Rattle.guarantee.specs.Invariant.{Local}
 use Rattle.guarantee.specs.Reached.{Reached, start, next}
 use Rattle.guarantee.specs.History.{Start, never, from, told, quietStart, callStart, wokenTold, stepTold, history}
@@ -23,20 +26,20 @@ use Rattle.guarantee.proofs.Guarantee.{sound}
 zero-le : (n : ℕ) → 0 ≤ n
 zero-le n = omega arith
 
-module _ (t : Table) (L : Lawful t) (i : ℕ) (b : i < t .n) where
-  abbrev LifeOf : ℕ → ℕ → ℕ → List Event → ℕ → ℕ → ℕ → Type 0
+module _ (t : Table) (L : Lawful t) (i : ℕ) (b : Present t i) where
+  abbrev pub LifeOf : ℕ → ℕ → ℕ → List Event → ℕ → ℕ → ℕ → Type 0
   LifeOf = Life i (t .P i) (t .Q i) (t .tr i) (t .rest i)
 
-  abbrev Lives : View → List Event → View → Type 0
+  abbrev pub Lives : View → List Event → View → Type 0
   Lives v es v′ = LifeOf (budget v) (part v) (deadline v) es (budget v′) (part v′) (deadline v′)
 
   -- two lives that meet are one
-  join : {q z d q₁ z₁ d₁ q′ z′ d′ : ℕ} {es fs : List Event} → LifeOf q z d es q₁ z₁ d₁ → LifeOf q₁ z₁ d₁ fs q′ z′ d′ → LifeOf q z d (es ++ fs) q′ z′ d′
-  join = shares.join i (t .P i) (t .Q i) (t .slop i) (t .tr i) (t .rest i) (L .A0 b) (L .A5 i)
+  pub join : {q z d q₁ z₁ d₁ q′ z′ d′ : ℕ} {es fs : List Event} → LifeOf q z d es q₁ z₁ d₁ → LifeOf q₁ z₁ d₁ fs q′ z′ d′ → LifeOf q z d (es ++ fs) q′ z′ d′
+  join = shares.join i (t .P i) (t .Q i) (t .slop i) (t .tr i) (t .rest i) (L .laws .A0 b) (L .laws .A5 b)
 
   -- A2: an empty budget is replenished from the deadline at the earliest
   at-deadline : (q z d : ℕ) → q ≡ 0 → z ≤ t .slop i → (t .tr i q z d ≤ d) × (z ≤ t .rest i q z d)
-  at-deadline q z d e h = let (a, c) = L .A2 b z d h in (rw (e, a) (le-refl d), rw (e, c) (le-refl z))
+  at-deadline q z d e h = let (a, c) = L .laws .A2 b z d h in (rw (e, a) (le-refl d), rw (e, c) (le-refl z))
 
   -- what is told of another slot
   told-other : (v : View) (j : ℕ) (x : Start) → j ≢ i → Lives v (told j x) v
@@ -99,19 +102,20 @@ module _ (t : Table) (L : Lawful t) (i : ℕ) (b : i < t .n) where
       → LifeOf (budget (s₁ .view i)) (part (s₁ .view i)) (deadline (s₁ .view i)) es q z d
       → LifeOf (budget (s .view i)) (part (s .view i)) (deadline (s .view i)) (Ran m ∷ es) q z d
   ticked s s₁ m run others I {q} {z} {d} {es} x = by-slot i m
-      (λ e. subst (λ (k : ℕ). Ticks t k (s .view k) (s₁ .view k) → LifeOf (budget (s .view i)) (part (s .view i)) (deadline (s .view i)) (Ran k ∷ es) q z d) (sym e)
+      (λ e. subst (λ (k : ℕ). Ticks t k (s .view k) (s₁ .view k)
+      → LifeOf (budget (s .view i)) (part (s .view i)) (deadline (s .view i)) (Ran k ∷ es) q z d) (sym e)
       (λ r. ran-lives (s .view i) (s₁ .view i) (runs-owes t (s .now) i (s .view i) (s₁ .view i) (I .inv .local i) r) r x) run)
       (λ ne. other ne (rw (others i (λ e. ne (sym e))) at x))
 
   -- what a step tells
-  step-lives : (s s′ : State) → Sound t s → (e : Step t s s′) → Lives (s .view i) (stepTold t e) (s′ .view i)
+  pub step-lives : (s s′ : State) → Sound t s → (e : Step t s s′) → Lives (s .view i) (stepTold t e) (s′ .view i)
   unfolding stepTold
   step-lives s s′ I (call k c e change bits others) = called s s′ k c change others I
   step-lives s s′ I (tick m s₁ n e run bits others w) =
-      ticked s s₁ m run others I (woken-lives s₁ s′ (w .each) (half-tick t L s s₁ I m n e run bits others .local i) (t .n) b)
+      ticked s s₁ m run others I (woken-lives s₁ s′ (w .each) (half-tick t L s s₁ I m n e run bits others .local i) (t .n) (b .0))
   step-lives s s′ I (pause s₁ idle e others bits w) =
       subst (λ (v : View). Lives v (wokenTold t s₁ s′ (w .each) (t .n)) (s′ .view i)) (others i)
-      (woken-lives s₁ s′ (w .each) (half-pause t L s s₁ I idle e others bits .local i) (t .n) b)
+      (woken-lives s₁ s′ (w .each) (half-pause t L s s₁ I idle e others bits .local i) (t .n) (b .0))
 
   -- what is told of slot i up to a board is a life of it, from budget 0 and deadline 0 to what the board keeps
   pub lives : {s : State} (r : Reached t s) → LifeOf 0 0 0 (history t r) (budget (s .view i)) (part (s .view i)) (deadline (s .view i))
@@ -119,10 +123,17 @@ module _ (t : Table) (L : Lawful t) (i : ℕ) (b : i < t .n) where
   lives (start h k) = rw (h i) ends
   lives (next {s} {s′} r e) = join (lives r) (step-lives s s′ (sound t L r) e)
 
+  -- the share over any list of events that is a life of slot i from its beginning
+  pub shared : (es : List Event) {q z d : ℕ} → LifeOf 0 0 0 es q z d → (before : List Event) (S : ℕ) (after rest : List Event)
+      → es ≡ (before ++ Replenished i S ∷ after) ++ rest
+      → ticks i after * t .P i + t .Q i * S ≤ t .Q i * (lastStart i S after + t .P i) + t .slop i
+  shared es l before S after rest e =
+      let (q, z, d, x, y) = shares.cut i (t .P i) (t .Q i) (t .slop i) (t .tr i) (t .rest i) (L .laws .A0 b) (L .laws .A5 b)
+      (before ++ Replenished i S ∷ after) (rw e at l) in
+      shares.share i (t .P i) (t .Q i) (t .slop i) (t .tr i) (t .rest i) (L .laws .A0 b) (L .laws .A5 b) (zero-le (t .slop i)) before S after x
+
   -- however the events of a run, or a part of them from its beginning, are cut as before, Replenished i S, after
   pub share : {s : State} (r : Reached t s) (before : List Event) (S : ℕ) (after rest : List Event)
       → history t r ≡ (before ++ Replenished i S ∷ after) ++ rest
       → ticks i after * t .P i + t .Q i * S ≤ t .Q i * (lastStart i S after + t .P i) + t .slop i
-  share {s} r before S after rest e =
-      let (q, z, d, x, y) = shares.cut i (t .P i) (t .Q i) (t .slop i) (t .tr i) (t .rest i) (L .A0 b) (L .A5 i) (before ++ Replenished i S ∷ after) (rw e at (lives r)) in
-      shares.share i (t .P i) (t .Q i) (t .slop i) (t .tr i) (t .rest i) (L .A0 b) (L .A5 i) (zero-le (t .slop i)) before S after x
+  share r = shared (history t r) (lives r)

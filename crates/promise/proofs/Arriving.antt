@@ -46,14 +46,14 @@ module _ (n l : ℕ) (t : List Figures) (w : Kept n l t) (b : Board) (es : List 
     later h =
         subst ruled (sym (arrived-later (slotOf t i) x (b .clock) h))
         (lived n l t w b es B i slot (inState x (Suspended (tr (slotOf t i) x))) _ _ [] (view-by x Idle e) refl
-        (rw (tr-same n l t w i server x) (steps.arrives-later {q = x .left .0} {z = 0} {d = x .deadline .0} server (omega (arith, h, tr-same n l t w i server x))), refl)
+        (rw (tr-same n l t w i server x) (steps.arrives-later {q = x .left .0} {z = 0} {d = x .deadline .0} (server, refl) (omega (arith, h, tr-same n l t w i server x))), refl)
         (B .dates i))
 
     now : tr (slotOf t i) x .0 ≤ b .clock .0 → ruled (arrived (slotOf t i) x (b .clock))
     now h =
         subst ruled (sym (arrived-now (slotOf t i) x (b .clock) h))
         (lived n l t w b es B i slot (replenished (slotOf t i) (b .clock)) _ _ _ (view-by x Idle e) (renewed-view n l t w i server (b .clock) (B .clock))
-        (steps.arrives {q = x .left .0} {z = 0} {d = x .deadline .0} server (omega (arith, h, tr-same n l t w i server x)), refl)
+        (steps.arrives {q = x .left .0} {z = 0} {d = x .deadline .0} (server, refl) (omega (arith, h, tr-same n l t w i server x)), refl)
         (renewed-date n l t w i server (b .clock) (b .clock .0) (omega arith) (B .clock)))
 
     arrives-idle : Arrives (arrivedIn Idle b i)

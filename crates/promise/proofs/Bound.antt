@@ -32,7 +32,8 @@ use Rattle.guarantee.specs.Step.{Locking, none, Bits}
 use Rattle.guarantee.specs.Step as steps
 use Rattle.guarantee.specs.Reached.{Reached, next}
 use Rattle.guarantee.specs.History.{history}
-use Rattle.guarantee.proofs.Base as base
+use Rattle.guarantee.proofs.Steps.{Sound}
+use Rattle.guarantee.proofs.Guarantee.{sound}
 use Rattle.guarantee.proofs.Use.{Telling, Changing, calls}
 use Rattle.promise.proofs.Lawful.{Kept, tableOf, lawful-table}
 use Rattle.promise.proofs.Naming.{server-of}
@@ -73,6 +74,10 @@ module _ (n l : ℕ) (t : List Figures) (w : Kept n l t) where
     pub reached : Reached T (look b)
     pub told : history T reached ≡ es
 
+  -- it keeps the argument's invariants
+  pub sound-bound : (b : Board) (es : List Event) → Bound b es → Sound T (look b)
+  sound-bound b es B = sound T (lawful-table n l t w) (B .reached)
+
   -- nothing happened
   pub still : (b : Board) (es : List Event) → Bound b es → Bound b (es ++ [])
   still b es B = rw append-nil B
@@ -88,7 +93,7 @@ module _ (n l : ℕ) (t : List Figures) (w : Kept n l t) where
 
   -- the argument's replenishment instant and replenished view are ours
   pub tr-same : (i : ℕ) → i < n → (x : Life) → tr (slotOf t i) x .0 ≡ T .tr i (x .left .0) 0 (x .deadline .0)
-  tr-same i h x = le-antisymm (tr-least f x pos (T .tr i q 0 d) (omega (arith, lawful-table n l t w .A0 h q 0 d))) (go (decLe d (tr f x .0)))
+  tr-same i h x = le-antisymm (tr-least f x pos (T .tr i q 0 d) (omega (arith, lawful-table n l t w .laws .A0 (h, refl) q 0 d))) (go (decLe d (tr f x .0)))
     where
       f : Figures
       f = slotOf t i
@@ -102,11 +107,11 @@ module _ (n l : ℕ) (t : List Figures) (w : Kept n l t) where
       pos : 0 < f .budget .0
       pos = w .ranged i h .budget-low
 
-      go : Dec (d ≤ tr f x .0) → d - q * f .period .0 / f .budget .0 ≤ tr f x .0
+      go : Dec (d ≤ tr f x .0) → d - (q * f .period .0 + 0) / f .budget .0 ≤ tr f x .0
       go (yes k) = omega arith
       go (no z) =
           let e : d ≡ tr f x .0 + (d - tr f x .0) = omega arith in
-          let k : (d - tr f x .0) * f .budget .0 ≤ q * f .period .0 = omega (arith, tr-A0 f x, ap (λ (m : ℕ). f .budget .0 * m) e) in
+          let k : (d - tr f x .0) * f .budget .0 ≤ q * f .period .0 + 0 = omega (arith, tr-A0 f x, ap (λ (m : ℕ). f .budget .0 * m) e) in
           omega (arith, le-div-iff-mul-le pos .1 k)
 
   pub renewed-view : (i : ℕ) → i < n → (s : Instant) → s .0 ≤ clockEnd → viewOf (replenished (slotOf t i) s) ≡ steps.replenished T i (s .0) 0

@@ -18,7 +18,7 @@ use Rattle.admission.specs.Admission.{slots, slotOf, placed, figuresOf, nobody}
 use Rattle.admission.specs.Admission.Laws.{passes-in}
 use Rattle.board.specs.declared.Board.{Board}
 use Rattle.board.specs.Calls.{fresh, admitted}
-use Rattle.guarantee.specs.Table.{Lawful}
+use Rattle.guarantee.specs.Lawful.{Lawful}
 use Rattle.sheet.specs.Commissioned.{Commissioned, opening, admission}
 use Rattle.board.proofs.Commissions.{number, open-done, open-low, Done, admit-done}
 use Rattle.sheet.proofs.Standing.{Standing, standing-empty, vacant-at, slot-same, slot-other, standing-with}

@@ -2,14 +2,14 @@
 use Prim.Native.Nat.{ℕ, zero, suc, _+_, _<_}
 use mathlib.Core.Path.{_≡_, refl, ap, _∙_}
 use mathlib.Core.Bool.{Bool, true, false}
-use mathlib.Core.List.{List, [], _∷_, _++_}
+use mathlib.Core.List.{List, []}
 use native.Mathlib.Omega.{arith}
 use lib.Dec.{eqb}
 use borrow.Author.Tests.{eq-eqb}
 use Rattle.terms.specs.Words.{pick, when}
 use Rattle.terms.proofs.Tests.{either}
 use Rattle.quantity.specs.declared.Instant.{Instant}
-use Rattle.events.specs.Events.{Event, Ran, Replenished, ticks}
+use Rattle.events.specs.Events.{Event, ticks}
 use Rattle.timing.specs.declared.Life.{Life}
 use Rattle.timing.specs.Timing.{due}
 use Rattle.board.specs.declared.Board.{Board}
@@ -20,15 +20,10 @@ use Rattle.board.specs.Run.{ticked, runs}
 use Rattle.board.specs.Machine.{made, single}
 use Rattle.board.specs.Events.{told, ticksTold, tickTold, renewal, renewals}
 use Rattle.board.proofs.Ones.{name-in-run}
+use Rattle.guarantee.proofs.LateTicks.{ticks-both}
 use Rattle.promise.specs.Runs.{Counts}
 
 module _ (j : ℕ) where
-  ticks-both : (es fs : List Event) → ticks j (es ++ fs) ≡ ticks j es + ticks j fs
-  unfolding ticks
-  ticks-both [] fs = omega arith
-  ticks-both (Ran i ∷ es) fs = omega (arith, ticks-both es fs)
-  ticks-both (Replenished i s ∷ es) fs = ticks-both es fs
-
   renewal-none : (i : ℕ) (y : Life) (now : Instant) → ticks j (renewal i y now) ≡ 0
   unfolding renewal ticks
   renewal-none i y now = either (λ (es : List Event). ticks j es ≡ 0) (due y now) refl refl
@@ -37,7 +32,7 @@ module _ (j : ℕ) where
   unfolding renewals ticks
   renewals-none f now zero = refl
   renewals-none f now (suc n) =
-      omega (arith, ticks-both (renewals f now n) (renewal n (f n) now), renewals-none f now n, renewal-none n (f n) now)
+      omega (arith, ticks-both j (renewals f now n) (renewal n (f n) now), renewals-none f now n, renewal-none n (f n) now)
 
   tick-counts : (b : Board) (c : Choice) → ticks j (tickTold b c) ≡ when (isSlot c j) 1
   unfolding tickTold ticks
@@ -59,7 +54,7 @@ module _ (j : ℕ) where
   ticks-count (suc k) b c h =
       let e = ap (λ (d : Choice). ticks j (tickTold b d)) (h 0 (omega arith)) ∙ tick-counts b c in
       let rest = ticks-count k (ticked b .board) c (λ i l. h (suc i) (omega arith)) in
-      ticks-both (tickTold b (named b)) (ticksTold (ticked b .board) k) ∙ omega (arith, e, rest) ∙ when-more (isSlot c j) k
+      ticks-both j (tickTold b (named b)) (ticksTold (ticked b .board) k) ∙ omega (arith, e, rest) ∙ when-more (isSlot c j) k
 
 pub counts : Counts
 unfolding told made

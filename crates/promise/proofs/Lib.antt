@@ -1,4 +1,5 @@
 pub mod Lawful
+pub mod Gaps
 pub mod Commissioning
 pub mod Table
 pub mod Look

@@ -33,13 +33,12 @@ use Rattle.board.specs.Calls.{refuse, standing, lockedBy, locking, lockFree, lo
 use Rattle.guarantee.specs.Board.{Has}
 use Rattle.guarantee.specs.Step.{none, takes}
 use Rattle.guarantee.specs.Step as steps
-use Rattle.guarantee.proofs.Guarantee.{sound}
 use Rattle.guarantee.proofs.Views.{has-holds}
 use Rattle.guarantee.proofs.Untaken.{untaken}
 use Rattle.promise.proofs.Lawful.{Kept, lawful-table}
 use Rattle.promise.proofs.Look.{look, view-by}
 use Rattle.promise.proofs.Naming.{resource-of, names}
-use Rattle.promise.proofs.Bound.{standing-no, Bound, still, served, figures-are, tr-same, renewed-view, renewed-date, moved, T}
+use Rattle.promise.proofs.Bound.{standing-no, Bound, sound-bound, still, served, figures-are, tr-same, renewed-view, renewed-date, moved, T}
 
 -- who is named
 pub is-slot : (c : Choice) (i : ℕ) → isSlot c i ≡ true → c ≡ Slot i
@@ -59,14 +58,14 @@ module _ (n l : ℕ) (t : List Figures) (w : Kept n l t) (b : Board) (es : List 
   -- what the named server uses and does not hold is not locked
   not-locked : (s : Bool) → lifeAt b i .state ≡ Ready s Free → named b ≡ Slot i → 0 < hold (slotOf t i) r .0 → has (b .locked) r ≡ true → ⊥
   not-locked s e name u k =
-      let (j, h) = sound (T n l t w) (lawful-table n l t w) (B .reached) .inv .locks .holder r k in
+      let (j, h) = sound-bound n l t w b es B .inv .locks .holder r k in
       go j h (ℕ-discrete j i)
     where
       go : (j : ℕ) → Has (look b .view j) r → Dec (j ≡ i) → ⊥
       go j h (yes q) = subst (λ v. Has v r) (ap (λ (m : ℕ). look b .view m) q ∙ view-by (lifeAt b i) (Ready s Free) e) h
       go j h (no ne) =
           let (x, o) = has-holds (look b .view j) r h in
-          untaken (T n l t w) (lawful-table n l t w) (B .reached) i j r x o ne (names n l t w b (B .table) (B .long) i name) u
+          untaken (T n l t w) (lawful-table n l t w) (sound-bound n l t w b es B) i j r x o ne (names n l t w b (B .table) (B .long) i name) u
 
   module _ (slot : i < slots) (server : i < n) (s : Bool) (e : lifeAt b i .state ≡ Ready s Free) (name : named b ≡ Slot i) (u : 0 < hold (slotOf t i) r .0)
       (unlocked : has (b .locked) r ≡ false) where

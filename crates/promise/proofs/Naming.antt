@@ -21,13 +21,16 @@ use Rattle.board.specs.Board.{figuresAt, lifeAt, uses, ceiling, clears, named}
 use Rattle.board.proofs.First.{Leads}
 use Rattle.board.proofs.Named.{First-of, Goes, Held, Why, itself, instead, named-why, nobody-unready}
 use Rattle.board.proofs.Ceilings.{all-clear, held-by}
-use Rattle.guarantee.specs.Board.{Before, First, FirstStarted, Named, deadline, goes-on, starts}
+use Rattle.guarantee.specs.Table.{Named}
+use Rattle.guarantee.specs.Board.{Before, First, FirstStarted, deadline}
+use Rattle.guarantee.specs.RuleCeiling.{goes-on, starts}
+use Rattle.guarantee.specs.RuleCeiling as ceilings
 use Rattle.guarantee.specs.Board as abstract
 use Rattle.guarantee.specs.Reached.{Reached}
 use Rattle.guarantee.proofs.Guarantee.{sound}
 use Rattle.guarantee.proofs.Views.{has-holds, holder-started}
 use Rattle.guarantee.proofs.Views.{started-ready as abstract-ready}
-use Rattle.promise.proofs.Lawful.{Kept, tableOf, lawful-table}
+use Rattle.promise.proofs.Lawful.{Kept, serversOf, tableOf, lawful-table}
 use Rattle.promise.proofs.Look.{look, deadline-is, ready-out, started-in, started-out, fresh-in, slot-of-ready}
 
 -- a hold that is not 0 is of a resource below 8
@@ -78,12 +81,12 @@ module _ (n l : ℕ) (t : List Figures) (w : Kept n l t) where
         let e = figures-same x in
         and-in _ _ (ap (λ (f : Figures). present f) e ∙ w .standing .servers x h) (ap (λ (f : Figures). ltb 0 (hold f r .0)) e ∙ lt-ltb _ _ u)
 
-    lets-start : (i : ℕ) → clears (figuresAt b i .period) (ceiling b) ≡ true → (r : ℕ) → has (b .locked) r ≡ true → tableOf n l t .clears i r
+    lets-start : (i : ℕ) → clears (figuresAt b i .period) (ceiling b) ≡ true → (r : ℕ) → has (b .locked) r ≡ true → ceilings.clears (serversOf n l t) i r
     lets-start i c r k x h u =
-        let p = all-clear b (figuresAt b i .period) c r x (resource-of (slotOf t x) r u) k (omega (arith, w .standing .few)) (uses-in x r h u) in
+        let p = all-clear b (figuresAt b i .period) c r x (resource-of (slotOf t x) r u) k (omega (arith, w .standing .few)) (uses-in x r (h .0) u) in
         omega (arith, p, ap (λ (f : Figures). f .period .0) (figures-same i), ap (λ (f : Figures). f .period .0) (figures-same x))
 
-    keeps-back : (i : ℕ) → clears (figuresAt b i .period) (ceiling b) ≡ false → (r : ℕ) × (has (b .locked) r ≡ true) × tableOf n l t .blocks r i
+    keeps-back : (i : ℕ) → clears (figuresAt b i .period) (ceiling b) ≡ false → (r : ℕ) × (has (b .locked) r ≡ true) × tableOf n l t .rule .blocks r i
     keeps-back i c =
         let (r, a, k, x, h, u, p) = held-by b (figuresAt b i .period) c in
         let e = figures-same x in
@@ -93,7 +96,7 @@ module _ (n l : ℕ) (t : List Figures) (w : Kept n l t) where
           k,
           (
             x,
-            server-of x here,
+            (server-of x here, refl),
             much,
             omega (arith, p, ap (λ (f : Figures). f .period .0) (figures-same i), ap (λ (f : Figures). f .period .0) (figures-same x)),
           ),
@@ -112,7 +115,7 @@ module _ (n l : ℕ) (t : List Figures) (w : Kept n l t) where
         by (itself h g) = alone h g (isStarted (lifeAt b m .state)) refl
         by (instead f h (x, y) k) =
             let (r, a, c) = keeps-back f y in
-            abstract.instead f r (started-in _ _ (lifeAt b m .state) (k .one)) (first-started m k) (fresh-in _ _ (lifeAt b f .state) (h .one) x) (first-ready f h) a c
+            ceilings.instead f r (started-in _ _ (lifeAt b m .state) (k .one)) (first-started m k) (fresh-in _ _ (lifeAt b f .state) (h .one) x) (first-ready f h) a c
 
     -- with nobody named none is ready: behind each lock stands a started holder
     pub names-nobody : Reached (tableOf n l t) (look b) → named b ≡ Nobody → (j : ℕ) → abstract.Ready (look b .view j) → ⊥

@@ -1,6 +1,6 @@
 -- Promise 3 of every history: each board that it leads to is one of the argument's, and each of its events one of the argument's events.
 use Prim.Native.Nat.{ℕ, _+_, _*_, _<_, _≤_}
-use mathlib.Core.Path.{_≡_, sym, ap, _∙_}
+use mathlib.Core.Path.{_≡_, refl, sym, ap, _∙_}
 use mathlib.Core.List.{List, [], _∷_, _++_}
 use native.Mathlib.Omega.{arith}
 use lib.ListN.{getD, length}
@@ -65,7 +65,7 @@ share b es h i here before s after rest e = go (stage h)
         rw (B .table)
         (omega (
           arith,
-          lives.share (T n l t w) (lawful-table n l t w) i (server-of n l t w i (sym (ap (λ (x : List Figures). inTable x i) (B .table)) ∙ here)) (B .reached)
+          lives.share (T n l t w) (lawful-table n l t w) i (server-of n l t w i (sym (ap (λ (x : List Figures). inTable x i) (B .table)) ∙ here), refl) (B .reached)
               before s after rest (B .told ∙ e),
         ))
 
@@ -79,12 +79,12 @@ unstarted-accounts b c i P Q =
 module _ (n l : ℕ) (t : List Figures) (w : Kept n l t) (b : Board) (es : List Event) (B : Bound n l t w b es) (i : ℕ) (server : i < n) where
   bound-left : lifeAt b i .left .0 ≡ leftAfter i (budgetOf t i) 0 es
   bound-left =
-      sym (budget-is _ _ (lifeAt b i .state)) ∙ sym (left-told i _ _ _ _ (lives.lives (T n l t w) (lawful-table n l t w) i server (B .reached)))
+      sym (budget-is _ _ (lifeAt b i .state)) ∙ sym (left-told i _ _ _ _ (lives.lives (T n l t w) (lawful-table n l t w) i (server, refl) (B .reached)))
       ∙ ap (λ (x : List Event). leftAfter i (budgetOf t i) 0 x) (B .told)
 
   bound-deadline : lifeAt b i .deadline .0 ≡ deadlineAfter i (periodOf t i) 0 es
   bound-deadline =
-      sym (deadline-is _ _ (lifeAt b i .state)) ∙ sym (deadline-told i _ _ _ _ (lives.lives (T n l t w) (lawful-table n l t w) i server (B .reached)))
+      sym (deadline-is _ _ (lifeAt b i .state)) ∙ sym (deadline-told i _ _ _ _ (lives.lives (T n l t w) (lawful-table n l t w) i (server, refl) (B .reached)))
       ∙ ap (λ (x : List Event). deadlineAfter i (periodOf t i) 0 x) (B .told)
 
 pub accounts : Accounts

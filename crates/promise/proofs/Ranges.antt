@@ -25,7 +25,6 @@ use Rattle.board.specs.declared.Board.{Board}
 use Rattle.board.specs.Board.{figuresAt, lifeAt}
 use Rattle.guarantee.specs.Board.{budget, deadline}
 use Rattle.guarantee.proofs.Facts.{I3-suspended, I3-spent, I4}
-use Rattle.guarantee.proofs.Guarantee.{sound}
 use Rattle.guarantee.proofs.Views.{in-table}
 use Rattle.guarantee.proofs.Lives.{lives}
 use Rattle.guarantee.proofs.Ranges.{budget-within, deadline-from}
@@ -33,7 +32,7 @@ use Rattle.promise.specs.Ranges.{InRange, Exact, KeepsRanges}
 use Rattle.promise.proofs.Lawful.{Kept, lawful-table}
 use Rattle.promise.proofs.Look.{look, view-by, ready-in, budget-is, deadline-is}
 use Rattle.promise.proofs.Naming.{server-of}
-use Rattle.promise.proofs.Bound.{T, Bound, figures-are}
+use Rattle.promise.proofs.Bound.{T, Bound, sound-bound, figures-are}
 use Rattle.promise.proofs.Histories.{Commissioning, Stage, unstarted, running, stage, begun-at}
 
 abbrev isIdle : State → Bool
@@ -62,16 +61,16 @@ module _ (n l : ℕ) (t : List Figures) (w : Kept n l t) (b : Board) (es : List 
 
   left-within : (i : ℕ) → i < n → x i .left .0 ≤ budgetOf t i
   left-within i h =
-      omega (arith, left-is i, budget-within i _ _ _ _ (lives (T n l t w) (lawful-table n l t w) i h (B .reached)) (omega arith))
+      omega (arith, left-is i, budget-within i _ _ _ _ (lives (T n l t w) (lawful-table n l t w) i (h, refl) (B .reached)) (omega arith))
 
   due-from : (i : ℕ) → i < n → (x i .left .0 ≡ 0) ⊎ (periodOf t i ≤ x i .deadline .0)
   due-from i h =
       ⊎-elim (λ e. inl (sym (left-is i) ∙ e)) (λ (k : periodOf t i ≤ deadline (look b .view i)). inr (omega (arith, k, due-is i)))
-      (deadline-from i _ _ _ _ (lives (T n l t w) (lawful-table n l t w) i h (B .reached)) (inl refl))
+      (deadline-from i _ _ _ _ (lives (T n l t w) (lawful-table n l t w) i (h, refl) (B .reached)) (inl refl))
 
   held-within : (i : ℕ) (s : Bool) (r : ℕ) (k : Length) → x i .state ≡ Ready s (On r k) → k .0 ≤ hold (slotOf t i) r .0
   held-within i s r k e =
-      I4 (T n l t w) (lawful-table n l t w) (B .reached) i (x i .left .0) 0 (x i .deadline .0) s r (k .0) (view-by (x i) (Ready s (On r k)) e) .2
+      I4 (T n l t w) (lawful-table n l t w) (sound-bound n l t w b es B) i (x i .left .0) 0 (x i .deadline .0) s r (k .0) (view-by (x i) (Ready s (On r k)) e) .2
 
   bound-range : InRange b
   bound-range = record {
@@ -85,8 +84,8 @@ module _ (n l : ℕ) (t : List Figures) (w : Kept n l t) (b : Board) (es : List 
     divides = λ i e. rw (B .table, B .frame) (w .divides i (server i e));
     left-high = λ i e. rw (B .table) (left-within i (server i e));
     deadline-high = λ i. rw (B .table) (B .dates i);
-    until-later = λ i k e. I3-suspended (T n l t w) (lawful-table n l t w) (B .reached) i (k .0) (x i .left .0) 0 (x i .deadline .0) (view-by (x i) (Suspended k) e);
-    spent-later = λ i e. I3-spent (T n l t w) (lawful-table n l t w) (B .reached) i (x i .left .0) 0 (x i .deadline .0) (view-by (x i) Spent e);
+    until-later = λ i k e. I3-suspended (T n l t w) (lawful-table n l t w) (sound-bound n l t w b es B) i (k .0) (x i .left .0) 0 (x i .deadline .0) (view-by (x i) (Suspended k) e);
+    spent-later = λ i e. I3-spent (T n l t w) (lawful-table n l t w) (sound-bound n l t w b es B) i (x i .left .0) 0 (x i .deadline .0) (view-by (x i) Spent e);
     held-high = λ i s r k e. rw (B .table) (held-within i s r k e);
   }
 
@@ -109,9 +108,9 @@ module _ (n l : ℕ) (t : List Figures) (w : Kept n l t) (b : Board) (es : List 
       -- a hold is at most a budget, and this at most a period
       small : (i : ℕ) (s : Bool) (r : ℕ) (k : Length) → x i .state ≡ Ready s (On r k) → k .0 + 1 ≤ longestLength
       small i s r k e =
-          let here = in-table (T n l t w) (b .clock .0) i (look b .view i) (sound (T n l t w) (lawful-table n l t w) (B .reached) .inv .local i)
+          let here = in-table (T n l t w) (b .clock .0) i (look b .view i) (sound-bound n l t w b es B .inv .local i)
           (ready-in _ _ (x i .state) (rw e refl)) in
-          let f = w .ranged i here in
+          let f = w .ranged i (here .0) in
           omega (arith, held-within i s r k e, f .holds-high r, f .budget-high, f .period-high)
 
 -- before start

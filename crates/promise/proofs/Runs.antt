@@ -51,7 +51,7 @@ use Rattle.promise.specs.Runs.{NobodyNamed, SomebodyRuns, Passes, Taken,
 use Rattle.promise.proofs.Lawful.{Kept, lawful-table}
 use Rattle.promise.proofs.Look.{view-by, ready-in}
 use Rattle.promise.proofs.Naming.{names-nobody}
-use Rattle.promise.proofs.Bound.{T, Bound, figures-are}
+use Rattle.promise.proofs.Bound.{T, Bound, sound-bound, figures-are}
 use Rattle.promise.proofs.Rousing.{roused-life}
 use Rattle.promise.proofs.Histories.{Stage, unstarted, running, stage, begun-at, run-early}
 
@@ -80,10 +80,10 @@ bound-left : (n l : ℕ) (t : List Figures) (w : Kept n l t) (b : Board) (es : L
     → (s : Bool) (k : Lock) → lifeAt b m .state ≡ Ready s k → 0 < lifeAt b m .left .0
 unfolding Within
 bound-left n l t w b es B h m name s Free e =
-    I5-free (T n l t w) (lawful-table n l t w) (B .reached) m (lifeAt b m .left .0) 0 (lifeAt b m .deadline .0) s (view-by (lifeAt b m) (Ready s Free) e)
+    I5-free (T n l t w) (lawful-table n l t w) (sound-bound n l t w b es B) m (lifeAt b m .left .0) 0 (lifeAt b m .deadline .0) s (view-by (lifeAt b m) (Ready s Free) e)
 bound-left n l t w b es B h m name s (On r k) e =
     let x = lifeAt b m in
-    let (a, c, d, covers) = I4 (T n l t w) (lawful-table n l t w) (B .reached) m (x .left .0) 0 (x .deadline .0) s r (k .0) (view-by x (Ready s (On r k)) e) in
+    let (a, c, d, covers) = I4 (T n l t w) (lawful-table n l t w) (sound-bound n l t w b es B) m (x .left .0) 0 (x .deadline .0) s r (k .0) (view-by x (Ready s (On r k)) e) in
     omega (arith, covers, h m s r k name e, ap (λ (f : Figures). hold f r .0) (figures-are n l t w b es B m))
 
 -- a tick that passes with m named and ready

@@ -36,7 +36,6 @@ use Rattle.guarantee.specs.Board.{View, ready, free}
 use Rattle.guarantee.specs.Board as abstract
 use Rattle.guarantee.specs.Step.{Ticks, works, ends, holds, Settled}
 use Rattle.guarantee.specs.Invariant.{Local}
-use Rattle.guarantee.proofs.Guarantee.{sound}
 use Rattle.guarantee.proofs.Facts.{I5-free, I7}
 use Rattle.guarantee.specs.Reached as reached
 use Rattle.guarantee.specs.History.{history}
@@ -45,7 +44,7 @@ use Rattle.guarantee.proofs.Use.{Telling, Quieting, inOrder, ticks as ticks-of,
 use Rattle.promise.proofs.Lawful.{Kept, lawful-table}
 use Rattle.promise.proofs.Look.{viewIn, viewOf, look, view-by, ready-in, life-beyond}
 use Rattle.promise.proofs.Naming.{names, names-nobody}
-use Rattle.promise.proofs.Bound.{T, Bound, figures-are}
+use Rattle.promise.proofs.Bound.{T, Bound, sound-bound, figures-are}
 use Rattle.promise.proofs.Rousing.{run-out, run-on, run-held, settled-woken, roused-life, roused-keeps}
 use Rattle.promise.proofs.Waking.{renewals-in-order, renewals-beyond, Awaits, Wakes, wakes, no-renewal}
 
@@ -63,12 +62,12 @@ module _ (n l : ℕ) (t : List Figures) (w : Kept n l t) (b : Board) (es : List 
   awaits j x Idle a c = tt
   awaits j x (Ready s k) a c = tt
   awaits j x Stopped a c = tt
-  awaits j x (Suspended k) a c = (a .0, c)
-  awaits j x Spent a c = (a .0, c)
+  awaits j x (Suspended k) a c = (a .0 .0, c)
+  awaits j x Spent a c = (a .0 .0, c)
 
   before : (j : ℕ) → Awaits n l t w (lifeAt b j .state) (lifeAt b j) (now .0) j
   before j =
-      let I = sound (T n l t w) (lawful-table n l t w) (B .reached) in
+      let I = sound-bound n l t w b es B in
       rw now-is (awaits j (lifeAt b j) (lifeAt b j .state) (I .inv .local j) (I .settled j))
 
   -- the board when the clock has moved, with these lives in the code, and what they come to, before anybody is replenished
@@ -203,8 +202,8 @@ module _ (n l : ℕ) (t : List Figures) (w : Kept n l t) (b : Board) (es : List 
             (works (sym less) (omega (arith, less))) tt
         go (no y) =
             let none : shorter (x .left) (ticks 1) .0 ≡ 0 = omega (arith, less) in
-            let owes = I5-free (T n l t w) (lawful-table n l t w) (B .reached) m (x .left .0) 0 (x .deadline .0) s view in
-            let early = I7 (T n l t w) (lawful-table n l t w) (B .reached) m (x .left .0) 0 (x .deadline .0) s free view owes in
+            let owes = I5-free (T n l t w) (lawful-table n l t w) (sound-bound n l t w b es B) m (x .left .0) 0 (x .deadline .0) s view in
+            let early = I7 (T n l t w) (lawful-table n l t w) (sound-bound n l t w b es B) m (x .left .0) 0 (x .deadline .0) s free view owes in
             tick-of s Free e (inState (ran-as Free) Spent) (ap runOut is ∙ run-out (ran-as Free) true refl none) refl
             (ends (sym less) none) (server, omega (arith, early, now-is))
 
@@ -280,7 +279,7 @@ module _ (n l : ℕ) (t : List Figures) (w : Kept n l t) (b : Board) (es : List 
   tick-bound m name within = go (lifeAt b m .state) refl (named-ready b m name)
     where
       server : abstract.Ready (look b .view m) → m < n
-      server a = in-table (T n l t w) (b .clock .0) m (look b .view m) (sound (T n l t w) (lawful-table n l t w) (B .reached) .inv .local m) a
+      server a = in-table (T n l t w) (b .clock .0) m (look b .view m) (sound-bound n l t w b es B .inv .local m) a .0
 
       go : (s : State) → lifeAt b m .state ≡ s → isReady (lifeAt b m .state) ≡ true → Bound n l t w (roused (worked b m)) (es ++ Ran m ∷ renewals (ranLives b m) now slots)
       go (Ready s Free) e a =

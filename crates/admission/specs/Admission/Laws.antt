@@ -111,22 +111,25 @@ module _ (t : List Figures) where
         let m : h ≤ longestWait t (periodOf t k) = ⊎-elim (λ z. omega arith) (λ r. wait-upper (periodOf t k) h r) w in
         omega (arith, passes-out e k b i, mul-le-mul-right (l / periodOf t k) m)
 
--- the load is at least the parts of the servers in the slots below n
+-- the load is at least the parts of some of the servers in the slots below n
 sum-more : (f : ℕ → ℕ) (n k : ℕ) → sum f n ≤ sum f (n + k)
 unfolding sum
 sum-more f n zero = rw add-zero (omega arith)
 sum-more f n (suc k) = rw add-suc (omega (arith, sum-more f n k))
 
-pub load-parts : (t : List Figures) (l p n : ℕ) → n ≤ slots → ((i : ℕ) → i < n → inTable t i ≡ true)
-    → sum (λ i. when (leb (periodOf t i) p) (budgetOf t i * (l / periodOf t i))) n ≤ load t l p
+when-more : (x y b : Bool) (m : ℕ) → (x ≡ true → y ≡ true) → when (x && b) m ≤ when (y && b) m
+when-more false y b m h = omega arith
+when-more true y b m h = rw (h refl) (omega arith)
+
+pub load-parts : (t : List Figures) (l p n : ℕ) (here : ℕ → Bool) → n ≤ slots → ((i : ℕ) → i < n → here i ≡ true → inTable t i ≡ true)
+    → sum (λ i. when (here i && leb (periodOf t i) p) (budgetOf t i * (l / periodOf t i))) n ≤ load t l p
 unfolding load
-load-parts t l p n h here =
+load-parts t l p n here h servers =
+    let part : (ℕ → Bool) → ℕ → ℕ = λ among i. when (among i && leb (periodOf t i) p) (budgetOf t i * (l / periodOf t i)) in
     let e : n + (slots - n) ≡ slots = omega arith in
     omega (
       arith,
-      sum-le n (λ i. when (leb (periodOf t i) p) (budgetOf t i * (l / periodOf t i)))
-          (λ i. when (inTable t i && leb (periodOf t i) p) (budgetOf t i * (l / periodOf t i)))
-          (λ i k. omega (arith, ap (λ (b : Bool). when (b && leb (periodOf t i) p) (budgetOf t i * (l / periodOf t i))) (here i k))),
-      sum-more (λ i. when (inTable t i && leb (periodOf t i) p) (budgetOf t i * (l / periodOf t i))) n (slots - n),
-      ap (λ (m : ℕ). sum (λ i. when (inTable t i && leb (periodOf t i) p) (budgetOf t i * (l / periodOf t i))) m) e,
+      sum-le n (part here) (part (inTable t)) (λ i k. when-more (here i) (inTable t i) (leb (periodOf t i) p) _ (servers i k)),
+      sum-more (part (inTable t)) n (slots - n),
+      ap (λ (m : ℕ). sum (part (inTable t)) m) e,
     )
