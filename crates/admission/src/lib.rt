@@ -1,4 +1,6 @@
 // Admission: who may be in the table, and the judgement of a newcomer.
+#![tactic(auto)]
+
 ghost use Rattle.std.specs.Prelude.{◌≡◌, ◌+◌, ◌*◌, ◌/◌, ◌≤◌, min, get_or};
 ghost use Rattle.terms.specs.Words.{list};
 ghost use Rattle.quantity.specs.Quantity.{ticks, length_of};
@@ -16,6 +18,7 @@ pub struct Judged {
 }
 
 // 4: the period is in its range and divides the frame.
+#[tactic(auto, unfolding(crate::specs::Admission::period_fits))]
 fn period_fits(frame: Length, period: u64) -> bool
     ensures { result ≡ period_fits frame.0 period }
 {
@@ -33,6 +36,7 @@ fn period_fits(frame: Length, period: u64) -> bool
 }
 
 // 5: the budget is 1 to the period.
+#[tactic(auto, unfolding(crate::specs::Admission::budget_fits))]
 fn budget_fits(period: u64, budget: u64) -> bool
     ensures { result ≡ budget_fits period budget }
 {
@@ -43,6 +47,7 @@ fn budget_fits(period: u64, budget: u64) -> bool
 }
 
 // 6: no hold is above the budget.
+#[tactic(auto, using(terms::proofs::Over::every_next, terms::proofs::Over::every_fails, terms::proofs::Tests::and_in), unfolding(terms::specs::Words::every, crate::specs::Admission::holds_fit))]
 fn holds_fit(budget: u64, holds: [u64; 8]) -> bool
     ensures { result ≡ holds_fit budget holds }
 {
@@ -58,6 +63,7 @@ fn holds_fit(budget: u64, holds: [u64; 8]) -> bool
 }
 
 // The figures as they are kept, once they are judged to be in range.
+#[tactic(auto, unfolding(crate::specs::Admission::figures_of))]
 fn figures(period: u64, budget: u64, holds: [u64; 8]) -> Figures
     ensures { result ≡ figures_of period budget holds }
 {
@@ -71,6 +77,7 @@ fn figures(period: u64, budget: u64, holds: [u64; 8]) -> Figures
     }
 }
 
+#[tactic(auto, using(crate::proofs::Steps::filled_list), unfolding(crate::specs::Steps::filled))]
 fn lengths(holds: [u64; 8]) -> [Length; 8]
     ensures { result ≡ list (λ i. length_of (get_or holds i 0)) 8 }
 {
@@ -86,6 +93,7 @@ fn lengths(holds: [u64; 8]) -> [Length; 8]
 }
 
 // What an amount in each period takes of the frame: amount * (L / P).
+#[tactic(auto, using(quantity::proofs::Laws::product_at_most))]
 fn part(frame: Length, amount: Length, period: Length) -> u64
     ensures is { result ≡ amount.0 * (frame.0 / period.0) }
     ensures small { result ≤ 18446744065119617025 }
@@ -98,6 +106,7 @@ fn part(frame: Length, amount: Length, period: Length) -> u64
 }
 
 // What a server adds to the load of the periods up to p.
+#[tactic(auto, unfolding(crate::specs::Steps::counted_in))]
 fn counted(f: Figures, frame: Length, p: Length) -> u64
     ensures is { result ≡ counted_in f frame.0 p.0 }
     ensures small { result ≤ 18446744065119617025 }
@@ -125,6 +134,7 @@ fn gather(sum: u64, more: u64) -> u64
 }
 
 // The load of the periods up to p, as far as it matters.
+#[tactic(auto, using(terms::proofs::Over::sum_next, crate::proofs::Steps::load_steps), unfolding(terms::specs::Words::sum))]
 fn load(table: [Figures; 16], frame: Length, p: Length) -> u64
     ensures { result ≡ min (load table frame.0 p.0) enough }
 {
@@ -139,6 +149,7 @@ fn load(table: [Figures; 16], frame: Length, p: Length) -> u64
 }
 
 // Whether this server uses r and has a period up to p.
+#[tactic(auto, unfolding(crate::specs::Steps::uses_up_to))]
 fn uses(f: Figures, p: Length, r: u8) -> bool
     ensures { result ≡ uses_up_to f p.0 r }
 {
@@ -153,6 +164,7 @@ fn uses(f: Figures, p: Length, r: u8) -> bool
 }
 
 // Whether some server with a period up to p uses r.
+#[tactic(auto, using(terms::proofs::Over::some_next, terms::proofs::Over::some_in, crate::proofs::Steps::used_steps), unfolding(terms::specs::Words::some))]
 fn used(table: [Figures; 16], p: Length, r: u8) -> bool
     ensures { result ≡ used table p.0 r }
 {
@@ -168,6 +180,7 @@ fn used(table: [Figures; 16], p: Length, r: u8) -> bool
 }
 
 // The hold of r by a server with a period above p.
+#[tactic(auto, unfolding(crate::specs::Steps::hold_above))]
 fn hold_above(f: Figures, p: Length, r: u8) -> Length
     ensures { result ≡ hold_above f p.0 r }
 {
@@ -179,6 +192,7 @@ fn hold_above(f: Figures, p: Length, r: u8) -> Length
 }
 
 // The largest of them.
+#[tactic(auto, using(terms::proofs::Over::largest_next, quantity::proofs::Laws::larger_is), unfolding(terms::specs::Words::largest, crate::specs::Steps::longest_hold))]
 fn longest_hold(table: [Figures; 16], p: Length, r: u8) -> Length
     ensures { result ≡ longest_hold table p.0 r }
 {
@@ -193,6 +207,7 @@ fn longest_hold(table: [Figures; 16], p: Length, r: u8) -> Length
 }
 
 // How long a server with period p may have to wait for r.
+#[tactic(auto, unfolding(crate::specs::Steps::wait_for))]
 fn wait_for(table: [Figures; 16], p: Length, r: u8) -> Length
     ensures { result ≡ wait_for table p.0 r }
 {
@@ -204,6 +219,7 @@ fn wait_for(table: [Figures; 16], p: Length, r: u8) -> Length
 }
 
 // B(k), of a server k with period p.
+#[tactic(auto, using(terms::proofs::Over::largest_next, quantity::proofs::Laws::larger_is, crate::proofs::Steps::wait_steps), unfolding(terms::specs::Words::largest))]
 pub fn longest_wait(table: [Figures; 16], p: Length) -> Length
     ensures { result ≡ ticks (longest_wait table p.0) }
 {
@@ -231,6 +247,7 @@ fn fits_at(table: [Figures; 16], frame: Length, p: Length) -> bool
 }
 
 // The test for a slot, which need not be in the table.
+#[tactic(auto, unfolding(crate::specs::Steps::slot_fits))]
 fn slot_fits(table: [Figures; 16], frame: Length, f: Figures) -> bool
     ensures { result ≡ slot_fits table frame.0 f }
 {
@@ -242,6 +259,7 @@ fn slot_fits(table: [Figures; 16], frame: Length, f: Figures) -> bool
 }
 
 // The test for every server of the table.
+#[tactic(auto, using(terms::proofs::Over::every_next, terms::proofs::Over::every_fails, terms::proofs::Tests::and_in, crate::proofs::Steps::passes_steps), unfolding(terms::specs::Words::every))]
 pub fn passes(table: [Figures; 16], frame: Length) -> bool
     ensures { result ≡ passes table frame.0 }
 {
@@ -257,6 +275,7 @@ pub fn passes(table: [Figures; 16], frame: Length) -> bool
 }
 
 // The table with f in a slot.
+#[tactic(auto, unfolding(crate::specs::Admission::placed))]
 pub fn place(table: [Figures; 16], slot: usize, f: Figures) -> [Figures; 16]
     ensures { result ≡ placed table slot f }
 {
@@ -268,6 +287,7 @@ pub fn place(table: [Figures; 16], slot: usize, f: Figures) -> [Figures; 16]
 }
 
 impl Judged {
+    #[tactic(auto, unfolding(terms::specs::Words::list))]
     fn refused(number: u8) -> Judged
         ensures { result ≡ refused number }
     {
@@ -279,6 +299,7 @@ impl Judged {
 }
 
 // The judgement of a newcomer for a slot, in document 01's order: 4, 5, 6, 7. Its figures are as wide as they come.
+#[tactic(auto, using(terms::proofs::Tests::test_of, crate::specs::Admission::Text::judged_is))]
 pub fn judge(
     table: [Figures; 16],
     slot: usize,

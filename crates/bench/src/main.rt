@@ -1,4 +1,6 @@
 // The bench program: lines of calls from standard input, a line of answer for each.
+#![tactic(auto)]
+
 ghost use Rattle.std.specs.Prelude.{◌≤◌, ◌<◌, length, ◌≡◌};
 
 use board::Board;

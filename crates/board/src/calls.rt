@@ -10,6 +10,7 @@ use resources::Set;
 use timing::{Figures, Life};
 
 // The lowest slot that is not in the table.
+#[tactic(auto, using(crate::proofs::Search::search_first, crate::proofs::Search::search_next, crate::proofs::Search::no_slot, crate::proofs::Search::same_slot), unfolding(crate::specs::Board::seek, crate::specs::Calls::vacancy))]
 fn vacancy(table: [Figures; 16]) -> Choice
     ensures is { result ≡ vacancy table }
     ensures low { (s : ℕ) → result ≡ Slot s → s < 16 }
@@ -27,6 +28,7 @@ fn vacancy(table: [Figures; 16]) -> Choice
 
 impl Board {
     // A board with a frame and nothing else.
+    #[tactic(auto, unfolding(crate::specs::Calls::fresh, terms::specs::Words::list))]
     fn fresh(frame: Length) -> Board
         ensures { result ≡ fresh frame }
     {
@@ -50,6 +52,7 @@ impl Board {
     }
 
     // Opening with a frame is allowed at any time and begins afresh.
+    #[tactic(auto, unfolding(crate::specs::Calls::opened))]
     pub fn open(self, frame: u64) -> Outcome
         ensures { result ≡ opened self frame }
     {
@@ -67,6 +70,7 @@ impl Board {
     }
 
     // In commissioning, with a frame.
+    #[tactic(auto, unfolding(crate::specs::Calls::commissioning))]
     fn is_commissioning(self) -> bool
         ensures { result ≡ commissioning self }
     {
@@ -97,6 +101,7 @@ impl Board {
     }
 
     // The board with the newcomer that was judged.
+    #[tactic(auto, unfolding(crate::specs::Calls::admitted_as))]
     fn admit_as(self, slot: usize, judged: Judged) -> Outcome
         requires { slot < 16 }
         ensures { result ≡ admitted_as self slot judged }
@@ -115,6 +120,7 @@ impl Board {
     }
 
     // Figures are as wide as they come, and judged before they are kept.
+    #[tactic(auto, unfolding(crate::specs::Calls::admitted, crate::specs::Calls::admitted_in))]
     pub fn admit(self, period: u64, budget: u64, holds: [u64; 8]) -> Outcome
         ensures { result ≡ admitted self period budget holds }
     {
@@ -133,6 +139,7 @@ impl Board {
     }
 
     // All servers begin idle, at clock 0.
+    #[tactic(auto, unfolding(crate::specs::Calls::started))]
     pub fn start(self) -> Outcome
         ensures { result ≡ started self }
     {

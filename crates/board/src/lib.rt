@@ -1,4 +1,6 @@
 // The board: one processor, up to 16 servers, 8 shared resources and a clock in whole ticks.
+#![tactic(auto)]
+
 ghost use Rattle.std.specs.Prelude.{◌≡◌, ◌<◌};
 ghost use Rattle.board.specs.Board.{number_of, value_of, with_life, with_sets, lower, clears, is_slot};
 ghost use Rattle.board.specs.Calls.{refuse};
@@ -146,6 +148,7 @@ impl Board {
     }
 
     // The board with another life in a slot.
+    #[tactic(auto, unfolding(crate::specs::Board::with_life))]
     fn with_life(self, slot: usize, l: Life) -> Board
         requires { slot < 16 }
         ensures { result ≡ with_life self slot l }
@@ -158,6 +161,7 @@ impl Board {
 
 impl Board {
     // The board with another life in a slot and other sets.
+    #[tactic(auto, unfolding(crate::specs::Board::with_sets))]
     fn with_sets(self, slot: usize, l: Life, locked: Set, closed: Set) -> Board
         requires { slot < 16 }
         ensures { result ≡ with_sets self slot l locked closed }

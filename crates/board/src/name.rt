@@ -31,6 +31,7 @@ fn uses(f: Figures, r: u8) -> bool
 }
 
 // The period of a user of r, which is its ceiling if nobody else uses r.
+#[tactic(auto, unfolding(crate::specs::Steps::user_ceiling))]
 fn user_ceiling(f: Figures, r: u8) -> Ceiling
     ensures { result ≡ user_ceiling f r }
 {
@@ -44,6 +45,7 @@ fn user_ceiling(f: Figures, r: u8) -> Ceiling
 
 impl Best {
     // The best so far stays before a server with deadline d in a later slot.
+    #[tactic(auto, unfolding(crate::specs::Steps::keeps))]
     fn keeps(self, d: Instant) -> bool
         ensures { result ≡ keeps self d }
     {
@@ -57,6 +59,7 @@ impl Best {
 
 impl Board {
     // The better of the best so far and slot i.
+    #[tactic(auto, unfolding(crate::specs::Steps::better_of))]
     fn better(self, started: bool, best: Best, i: usize) -> Best
         requires { i < 16 }
         ensures { result ≡ better_of self started best i }
@@ -77,6 +80,7 @@ impl Board {
         }
     }
 
+    #[tactic(auto, unfolding(crate::specs::Steps::best_of))]
     fn best(self, started: bool) -> Best
         ensures { result ≡ best_of self started 16 }
     {
@@ -94,6 +98,7 @@ impl Board {
     }
 
     // The first of the ready servers, or of the started ones.
+    #[tactic(auto, using(crate::proofs::Search::no_slot, crate::proofs::First::first_is, crate::proofs::First::first_below))]
     fn first(self, started: bool) -> Choice
         ensures is { result ≡ first self started }
         ensures low { (s : ℕ) → result ≡ Slot s → s < 16 }
@@ -107,6 +112,7 @@ impl Board {
     }
 
     // A resource's ceiling: the least period among servers that use it.
+    #[tactic(auto, using(crate::proofs::Lowest::lowest_next), unfolding(crate::specs::Board::lowest, crate::specs::Board::ceiling_of, crate::specs::Steps::user_ceiling))]
     fn ceiling_of(self, r: u8) -> Ceiling
         ensures { result ≡ ceiling_of self r }
     {
@@ -122,6 +128,7 @@ impl Board {
     }
 
     // The ceiling with resource r counted, if the lowest bit says that it is locked.
+    #[tactic(auto, using(crate::proofs::Lowest::lower_absent), unfolding(crate::specs::Steps::ceiling_step))]
     fn ceiling_with(self, c: Ceiling, bits: u8, r: u8) -> Ceiling
         ensures { result ≡ ceiling_step self c (eqb (bits % 2) 1) r }
     {
@@ -133,6 +140,7 @@ impl Board {
     }
 
     // The board's ceiling: a walk over the bits of the locked number, until none is left.
+    #[tactic(auto, using(crate::proofs::Lowest::half_left, crate::proofs::Lowest::some_left, resources::proofs::Laws::has_bit, resources::proofs::Laws::has_beyond, crate::proofs::Lowest::lowest_next, crate::proofs::Lowest::lowest_rest), unfolding(crate::specs::Board::lowest, crate::specs::Steps::ceiling_step, crate::specs::Board::ceiling))]
     fn ceiling(self) -> Ceiling
         ensures { result ≡ ceiling self }
     {
@@ -148,6 +156,7 @@ impl Board {
     }
 
     // Whether slot f, the first, is named: it is started, or no ceiling keeps it.
+    #[tactic(auto, unfolding(crate::specs::Board::may_go))]
     fn may_go(self, f: usize) -> bool
         requires { f < 16 }
         ensures { result ≡ may_go self f }
@@ -164,6 +173,7 @@ impl Board {
     }
 
     // Who is named, where slot f is the first of the ready servers.
+    #[tactic(auto, using(crate::proofs::Search::same_slot), unfolding(crate::specs::Board::named_by))]
     fn named_by(self, f: usize) -> Choice
         requires { f < 16 }
         ensures is { result ≡ named_by self (Slot f) }
@@ -176,6 +186,7 @@ impl Board {
         }
     }
 
+    #[tactic(auto, using(crate::proofs::Search::no_slot), unfolding(crate::specs::Board::named, crate::specs::Board::named_by))]
     pub fn named(self) -> Choice
         ensures is { result ≡ named self }
         ensures low { (s : ℕ) → result ≡ Slot s → s < 16 }

@@ -59,6 +59,7 @@ fn wait_of(l: Life) -> Wait
 }
 
 // The first instant that any server waits for.
+#[tactic(auto, unfolding(crate::specs::Steps::wait_of))]
 fn first_wait(lives: [Life; 16]) -> Wait
     ensures { result ≡ wait_of lives 16 }
 {
@@ -86,6 +87,7 @@ impl Reason {
 }
 
 // Without a lock a tick that leaves no budget ends the run; with one, a tick at which the held count reaches the hold.
+#[tactic(auto, unfolding(crate::specs::Run::reached_with))]
 fn reach_with(lock: Lock, f: Figures, left: Length) -> Reason
     ensures { result ≡ reached_with lock f left }
 {
@@ -123,6 +125,7 @@ fn reach(l: Life, f: Figures) -> Reason
 }
 
 // Why a run ends with a tick, if it does: a replenishment is a change too.
+#[tactic(auto, unfolding(crate::specs::Steps::ended_by))]
 fn end_by(l: Life, f: Figures, wait: Wait, now: Instant) -> Reason
     ensures { result ≡ ended_by l f wait now }
 {
@@ -134,6 +137,7 @@ fn end_by(l: Life, f: Figures, wait: Wait, now: Instant) -> Reason
 
 impl Board {
     // Whether somebody's instant has come.
+    #[tactic(auto, using(terms::proofs::Over::some_in, terms::proofs::Over::some_next), unfolding(terms::specs::Words::some, crate::specs::Run::any_due))]
     fn any_due(self) -> bool
         ensures { result ≡ any_due self }
     {
@@ -151,6 +155,7 @@ impl Board {
     }
 
     // The lives with all whose instant has come replenished.
+    #[tactic(auto, using(terms::proofs::Over::filled_list), unfolding(terms::specs::Words::filled))]
     fn woken(self) -> [Life; 16]
         ensures { result ≡ list (woken_at self) 16 }
     {
@@ -171,6 +176,7 @@ impl Board {
     }
 
     // Servers whose instant has come are replenished.
+    #[tactic(auto, unfolding(crate::specs::Run::roused))]
     fn rouse(self) -> Board
         ensures { result ≡ roused self }
     {
@@ -184,6 +190,7 @@ impl Board {
     }
 
     // The end of a run: the tick that ended it replenishes whose instant has come; where no event did, nobody's has.
+    #[tactic(auto, unfolding(crate::specs::Steps::ran_to))]
     fn end_run(self, ticks: u64, reason: Reason) -> Ran
         ensures { result ≡ ran_to self ticks reason }
     {
@@ -203,6 +210,7 @@ impl Board {
     }
 
     // Nobody is named: only the clock moves, until somebody's instant comes.
+    #[tactic(auto, using(crate::proofs::Stays::moved, crate::proofs::Loop::turn_whole, crate::proofs::Loop::ends_same, crate::proofs::Loop::pause_on, crate::proofs::Loop::pause_event))]
     fn pause(self, n: u64) -> Ran
         requires { named self ≡ Nobody }
         ensures { result ≡ ran_from self 0 n }
@@ -229,6 +237,7 @@ impl Board {
     }
 
     // Slot m is named, and stays so: only its life and the clock change, until a tick ends the run.
+    #[tactic(auto, using(crate::proofs::Ticks::whole_if, crate::proofs::Loop::turn_whole, crate::proofs::Loop::ends_same, crate::proofs::Loop::worked_to, crate::proofs::Loop::worked_same, crate::proofs::Loop::name_on, crate::proofs::Loop::work_on, crate::proofs::Loop::work_event))]
     fn work(self, m: usize, n: u64) -> Ran
         requires self_value { named self ≡ Slot m }
         requires m_bound { m < 16 }
@@ -271,6 +280,7 @@ impl Board {
         }
     }
 
+    #[tactic(auto, unfolding(crate::specs::Run::passes))]
     fn pass(self, n: u64) -> Outcome
         ensures { result ≡ passes self n }
     {
@@ -283,6 +293,7 @@ impl Board {
     }
 
     // An overholder is stopped, and its resource closed and unlocked.
+    #[tactic(auto, unfolding(crate::specs::Run::stopping))]
     fn stop(self, m: usize, r: u8) -> Outcome
         requires { m < 16 }
         ensures { result ≡ stopping self m r }
@@ -298,6 +309,7 @@ impl Board {
         }
     }
 
+    #[tactic(auto, unfolding(crate::specs::Run::run_with))]
     fn run_with(self, lock: Lock, m: usize, n: u64) -> Outcome
         requires { m < 16 }
         ensures { result ≡ run_with lock self m n }
@@ -316,6 +328,7 @@ impl Board {
         }
     }
 
+    #[tactic(auto, unfolding(crate::specs::Run::run_in))]
     fn run_in(self, m: usize, n: u64) -> Outcome
         requires { m < 16 }
         ensures { result ≡ run_in (life_at self m).state self m n }
@@ -331,6 +344,7 @@ impl Board {
         }
     }
 
+    #[tactic(auto, unfolding(crate::specs::Run::run_by))]
     fn run_by(self, n: u64) -> Outcome
         ensures { result ≡ run_by self (named self) n }
     {
@@ -341,6 +355,7 @@ impl Board {
         }
     }
 
+    #[tactic(auto, using(quantity::proofs::Laws::length_of_exact, quantity::proofs::Laws::later_is), unfolding(crate::specs::Run::runs))]
     pub fn run(self, n: u64) -> Outcome
         ensures { result ≡ runs self n }
     {

@@ -31,6 +31,7 @@ fn is_granted(ruling: Ruling) -> bool
 }
 
 // The locked set after a rule: bit r is set where the lock is granted.
+#[tactic(auto, unfolding(crate::specs::Calls::locked_by))]
 fn locked_by(locked: Set, r: u8, ruling: Ruling) -> Set
     ensures { result ≡ locked_by locked r ruling }
 {
@@ -43,6 +44,7 @@ fn locked_by(locked: Set, r: u8, ruling: Ruling) -> Set
 
 impl Board {
     // The checks that the calls of a server share: 0 where they pass, or the number of the refusal.
+    #[tactic(auto, unfolding(crate::specs::Calls::standing))]
     fn standing(self, slot: u64) -> u8
         ensures is { result ≡ standing self slot }
         ensures low { result ≡ 0 → slot < 16 }
@@ -67,6 +69,7 @@ impl Board {
     }
 
     // The idle server in a slot arrives.
+    #[tactic(auto, unfolding(crate::specs::Calls::arrived_in))]
     fn arrive_idle(self, i: usize) -> Outcome
         requires { i < 16 }
         ensures { result ≡ arrived_in Idle self i }
@@ -84,6 +87,7 @@ impl Board {
         }
     }
 
+    #[tactic(auto, unfolding(crate::specs::Calls::arrived_in))]
     fn arrive_in(self, i: usize) -> Outcome
         requires { i < 16 }
         ensures { result ≡ arrived_in (life_at self i).state self i }
@@ -102,6 +106,7 @@ impl Board {
         }
     }
 
+    #[tactic(auto, unfolding(crate::specs::Calls::arrives))]
     pub fn arrive(self, slot: u64) -> Outcome
         ensures { result ≡ arrives self slot }
     {
@@ -120,6 +125,7 @@ impl Board {
     }
 
     // The server in a slot becomes idle and keeps its budget and deadline.
+    #[tactic(auto, unfolding(crate::specs::Calls::rested))]
     fn rest(self, i: usize) -> Outcome
         requires { i < 16 }
         ensures { result ≡ rested self i }
@@ -133,6 +139,7 @@ impl Board {
         }
     }
 
+    #[tactic(auto, unfolding(crate::specs::Calls::done_with))]
     fn done_with(self, lock: Lock, i: usize) -> Outcome
         requires { i < 16 }
         ensures { result ≡ done_with lock self i }
@@ -143,6 +150,7 @@ impl Board {
         }
     }
 
+    #[tactic(auto, unfolding(crate::specs::Calls::done_ready))]
     fn done_ready(self, lock: Lock, i: usize) -> Outcome
         requires { i < 16 }
         ensures { result ≡ done_ready lock self i }
@@ -153,6 +161,7 @@ impl Board {
         self.done_with(lock, i)
     }
 
+    #[tactic(auto, unfolding(crate::specs::Calls::done_in))]
     fn done_in(self, i: usize) -> Outcome
         requires { i < 16 }
         ensures { result ≡ done_in (life_at self i).state self i }
@@ -168,6 +177,7 @@ impl Board {
         }
     }
 
+    #[tactic(auto, unfolding(crate::specs::Calls::done_by))]
     pub fn done(self, slot: u64) -> Outcome
         ensures { result ≡ done_by self slot }
     {
@@ -179,6 +189,7 @@ impl Board {
     }
 
     // The lock's budget rule, and the bit it sets.
+    #[tactic(auto, unfolding(crate::specs::Calls::locking))]
     fn lock_by(self, i: usize, r: u8) -> Outcome
         requires { i < 16 }
         ensures { result ≡ locking self i r (asked (figures_at self i) (life_at self i) r self.clock) }
@@ -197,6 +208,7 @@ impl Board {
         }
     }
 
+    #[tactic(auto, using(timing::specs::Timing::Laws::hold_outside), unfolding(crate::specs::Calls::lock_free))]
     fn lock_free(self, i: usize, r: u64) -> Outcome
         requires { i < 16 }
         ensures { result ≡ lock_free self i r }
@@ -219,6 +231,7 @@ impl Board {
         self.lock_by(i, q)
     }
 
+    #[tactic(auto, unfolding(crate::specs::Calls::lock_with))]
     fn lock_with(self, lock: Lock, i: usize, r: u64) -> Outcome
         requires { i < 16 }
         ensures { result ≡ lock_with lock self i r }
@@ -229,6 +242,7 @@ impl Board {
         }
     }
 
+    #[tactic(auto, unfolding(crate::specs::Calls::lock_ready))]
     fn lock_ready(self, lock: Lock, i: usize, r: u64) -> Outcome
         requires { i < 16 }
         ensures { result ≡ lock_ready lock self i r }
@@ -239,6 +253,7 @@ impl Board {
         self.lock_with(lock, i, r)
     }
 
+    #[tactic(auto, unfolding(crate::specs::Calls::lock_in))]
     fn lock_in(self, i: usize, r: u64) -> Outcome
         requires { i < 16 }
         ensures { result ≡ lock_in (life_at self i).state self i r }
@@ -254,6 +269,7 @@ impl Board {
         }
     }
 
+    #[tactic(auto, unfolding(crate::specs::Calls::locks))]
     pub fn lock(self, slot: u64, resource: u64) -> Outcome
         ensures { result ≡ locks self slot resource }
     {
@@ -265,6 +281,7 @@ impl Board {
     }
 
     // The lock is given back, and the server may be spent.
+    #[tactic(auto, unfolding(crate::specs::Calls::unlocking))]
     fn unlock_by(self, i: usize, started: bool, r: u8) -> Outcome
         requires { i < 16 }
         ensures { result ≡ unlocking self i started r }
@@ -284,6 +301,7 @@ impl Board {
         }
     }
 
+    #[tactic(auto, unfolding(crate::specs::Calls::unlock_with))]
     fn unlock_with(self, started: bool, lock: Lock, i: usize) -> Outcome
         requires { i < 16 }
         ensures { result ≡ unlock_with started lock self i }
@@ -294,6 +312,7 @@ impl Board {
         }
     }
 
+    #[tactic(auto, unfolding(crate::specs::Calls::unlock_ready))]
     fn unlock_ready(self, started: bool, lock: Lock, i: usize) -> Outcome
         requires { i < 16 }
         ensures { result ≡ unlock_ready started lock self i }
@@ -304,6 +323,7 @@ impl Board {
         self.unlock_with(started, lock, i)
     }
 
+    #[tactic(auto, unfolding(crate::specs::Calls::unlock_in))]
     fn unlock_in(self, i: usize) -> Outcome
         requires { i < 16 }
         ensures { result ≡ unlock_in (life_at self i).state self i }
@@ -319,6 +339,7 @@ impl Board {
         }
     }
 
+    #[tactic(auto, unfolding(crate::specs::Calls::unlocks))]
     pub fn unlock(self, slot: u64) -> Outcome
         ensures { result ≡ unlocks self slot }
     {

@@ -1,4 +1,6 @@
 // The bench program's answers: the call that a line asks for, made on a board, and what is shown of the board after it.
+#![tactic(auto)]
+
 ghost use Rattle.std.specs.Prelude.{◌≡◌};
 ghost use Rattle.desk.specs.Desk.{called, told, served, slot_shown, shown};
 
@@ -20,6 +22,7 @@ pub struct Shown {
     pub named: u64,
 }
 
+#[tactic(auto, unfolding(crate::specs::Desk::called))]
 fn make(board: Board, call: Call, holds: [u64; 8]) -> Outcome
     ensures { result ≡ called board call holds }
 {
@@ -39,6 +42,7 @@ fn make(board: Board, call: Call, holds: [u64; 8]) -> Outcome
     }
 }
 
+#[tactic(auto, unfolding(crate::specs::Desk::told))]
 fn tell(o: Outcome) -> Told
     ensures { result ≡ told o }
 {
@@ -54,6 +58,7 @@ fn tell(o: Outcome) -> Told
 }
 
 // A line that was taken apart, served on a board.
+#[tactic(auto, unfolding(crate::specs::Desk::served))]
 pub fn serve(board: Board, line: Line) -> Told
     ensures { result ≡ served board line }
 {
@@ -73,6 +78,7 @@ fn slot_shown(c: Choice) -> u64
 }
 
 // What an answer's line begins with.
+#[tactic(auto, unfolding(crate::specs::Desk::shown))]
 pub fn show(board: Board) -> Shown
     ensures { result ≡ shown board }
 {

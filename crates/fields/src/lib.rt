@@ -1,4 +1,6 @@
 // The sheet's tagged fields over slices of bytes: numbers, heads, the walk over the fields, and their writing.
+#![tactic(auto)]
+
 ghost use Rattle.std.specs.Prelude.{◌≡◌, ◌+◌, ◌<◌, ◌≤◌, length};
 ghost use Rattle.fields.specs.Numbers.{number_in, bytes_of, placed};
 ghost use Rattle.fields.specs.Fields.{head_at, head_of};
@@ -37,6 +39,7 @@ fn wide(x: u8) -> u32
 }
 
 // The number that a part of four bytes is.
+#[tactic(auto, using(crate::proofs::Numbers::number_in_lem, crate::proofs::Numbers::number_four), unfolding(crate::specs::Numbers::number_in))]
 pub fn read4(part: &[u8]) -> u32
     ensures { result ≡ number_in 4 part.now }
 {
@@ -51,6 +54,7 @@ pub fn read4(part: &[u8]) -> u32
 }
 
 // The number that a part of two bytes is.
+#[tactic(auto, using(crate::proofs::Numbers::number_in_lem, crate::proofs::Numbers::number_two), unfolding(crate::specs::Numbers::number_in))]
 pub fn read2(part: &[u8]) -> u16
     ensures { result ≡ number_in 2 part.now }
 {
@@ -63,6 +67,7 @@ pub fn read2(part: &[u8]) -> u16
 }
 
 // A number as four bytes from an offset on; nothing moves where they do not fit.
+#[tactic(auto, using(crate::proofs::Placing::placed_out, crate::proofs::Placing::placed_sets), unfolding(crate::specs::Numbers::bytes_of))]
 pub fn put4(buffer: &mut [u8], at: usize, x: u32)
     ensures { buffer.new ≡ placed buffer.old at (bytes_of 4 x) }
 {
@@ -79,6 +84,7 @@ pub fn put4(buffer: &mut [u8], at: usize, x: u32)
 }
 
 // A number as two bytes from an offset on; nothing moves where they do not fit.
+#[tactic(auto, using(crate::proofs::Placing::placed_out, crate::proofs::Placing::placed_sets), unfolding(crate::specs::Numbers::bytes_of))]
 pub fn put2(buffer: &mut [u8], at: usize, x: u16)
     ensures { buffer.new ≡ placed buffer.old at (bytes_of 2 x) }
 {
@@ -93,6 +99,7 @@ pub fn put2(buffer: &mut [u8], at: usize, x: u16)
 }
 
 // A field's head from an offset on; nothing moves where it does not fit.
+#[tactic(auto, using(crate::proofs::Placing::placed_out, crate::proofs::Placing::placed_sets), unfolding(crate::specs::Numbers::bytes_of))]
 pub fn put_head(buffer: &mut [u8], at: usize, tag: u8, size: u16)
     ensures { buffer.new ≡ placed buffer.old at (head_of tag size) }
 {
@@ -108,6 +115,7 @@ pub fn put_head(buffer: &mut [u8], at: usize, tag: u8, size: u16)
 }
 
 // The field at an offset of the sheet.
+#[tactic(auto, using(crate::proofs::Heads::head_missing, crate::proofs::Heads::head_cut, crate::proofs::Heads::head_whole, crate::proofs::Heads::length_read))]
 pub fn head_at(sheet: &[u8], at: usize) -> Head
     ensures { result ≡ head_at sheet.now at }
 {
@@ -147,6 +155,7 @@ fn not_in_form(at: usize) -> Form
 }
 
 // Whether a body fits a server's field of the old form.
+#[tactic(auto, unfolding(crate::specs::Old::old_body))]
 fn old_body(body: &[u8]) -> bool
     ensures { result ≡ old_body body.now }
 {
@@ -157,6 +166,7 @@ fn old_body(body: &[u8]) -> bool
 }
 
 // Whether a body fits a server's field of a tag: the one test that is a form's own.
+#[tactic(auto, unfolding(crate::specs::Bodies::body_fits))]
 fn fits(tag: u8, body: &[u8]) -> bool
     ensures { result ≡ body_fits tag body.now }
 {
@@ -167,6 +177,7 @@ fn fits(tag: u8, body: &[u8]) -> bool
 }
 
 // A whole field where a server's or the closing one is expected.
+#[tactic(auto, unfolding(crate::specs::Form::place_of))]
 fn place_of(sheet: &[u8], at: usize, tag: u8, found: u8, start: usize, size: usize) -> Place
     requires { start + size ≤ length sheet.now }
     ensures { result ≡ place_of tag (body_fits tag) sheet.now at (Head.Field found start size) }
@@ -190,6 +201,7 @@ fn place_of(sheet: &[u8], at: usize, tag: u8, found: u8, start: usize, size: usi
     Place::Last
 }
 
+#[tactic(auto, using(crate::proofs::Heads::head_within), unfolding(crate::specs::Form::place_at, crate::specs::Form::place_of))]
 fn place_at(sheet: &[u8], at: usize, tag: u8) -> Place
     ensures { result ≡ place_at tag (body_fits tag) sheet.now at }
 {
@@ -202,6 +214,7 @@ fn place_at(sheet: &[u8], at: usize, tag: u8) -> Place
 }
 
 // The walk over the fields behind the frame's.
+#[tactic(auto, using(crate::proofs::Places::server_end, crate::proofs::Places::from_server, crate::proofs::Places::from_last, crate::proofs::Places::from_bad))]
 fn form_from(sheet: &[u8], tag: u8) -> Form
     requires { 7 ≤ length sheet.now }
     ensures { result ≡ form_from tag (body_fits tag) sheet.now (length sheet.now) 7 0 }
@@ -222,6 +235,7 @@ fn form_from(sheet: &[u8], tag: u8) -> Form
 }
 
 // The form of a whole sheet whose servers' fields have a tag.
+#[tactic(auto, using(crate::proofs::Heads::head_within), unfolding(crate::specs::Form::form_with, crate::specs::Form::frame_then))]
 fn form_with(sheet: &[u8], tag: u8) -> Form
     ensures { result ≡ form_with tag (body_fits tag) sheet.now }
 {
@@ -242,6 +256,7 @@ fn form_with(sheet: &[u8], tag: u8) -> Form
 }
 
 // The form of a whole sheet of the old form: in form with so many servers, or the offset of the first bad field.
+#[tactic(auto, unfolding(crate::specs::Old::form_of, crate::specs::Bodies::body_fits))]
 pub fn form_of(sheet: &[u8]) -> Form
     ensures { result ≡ form_of sheet.now }
 {

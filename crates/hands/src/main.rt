@@ -1,4 +1,6 @@
 // Boards made by hand, for the answers that generated lines do not reach: 14, 18 and 23. apart/src/bin/hands.rs makes the same boards.
+#![tactic(auto)]
+
 ghost use Rattle.std.specs.Prelude.{◌≤◌};
 
 use board::Board;

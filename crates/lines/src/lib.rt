@@ -1,4 +1,6 @@
 // The bench program's lines: bytes taken apart into calls, answers printed, input split into lines. Nothing here reads or writes.
+#![tactic(auto)]
+
 ghost use Rattle.std.specs.Prelude.{◌≡◌, [], ◌+◌, ◌-◌, ◌≤◌, ◌<◌, min, max, length, take, drop, get_or};
 ghost use Rattle.std.proofs.lemmas.List.Edits.{sets};
 ghost use Rattle.lines.specs.Text.{before, fields_of, digits_of};
@@ -44,6 +46,7 @@ struct Numbers {
 }
 
 // A digit more.
+#[tactic(auto, using(crate::specs::Text::largest_number), unfolding(crate::specs::Steps::pushed))]
 fn push(n: Number, byte: u8) -> Number
     ensures { result ≡ pushed n byte }
 {
@@ -79,6 +82,7 @@ fn push(n: Number, byte: u8) -> Number
 }
 
 // A field read as a number.
+#[tactic(auto, using(crate::proofs::Decimal::number_empty, crate::proofs::Decimal::number_zero, crate::proofs::Decimal::number_led, crate::proofs::Decimal::number_plain))]
 fn read(s: &[u8]) -> Number
     ensures { result ≡ number_of s.now }
 {
@@ -100,6 +104,7 @@ fn read(s: &[u8]) -> Number
     digits(s)
 }
 
+#[tactic(auto, using(crate::proofs::Decimal::pushed_all_next, crate::proofs::Decimal::pushed_all_end))]
 fn digits(s: &[u8]) -> Number
     ensures { result ≡ pushed_all nought s.now }
 {
@@ -113,6 +118,7 @@ fn digits(s: &[u8]) -> Number
 }
 
 // The place of the first such byte at or behind a place; the end of the bytes if there is none.
+#[tactic(auto, using(crate::specs::Text::before, crate::proofs::Fields::before_here, crate::proofs::Fields::before_on, crate::proofs::Fields::before_end))]
 fn find(s: &[u8], byte: u8, from: usize) -> usize
     ensures is { result ≡ from + before byte (drop from s.now) }
     ensures within { (from ≤ result) × (result ≤ max from (length s.now)) }
@@ -128,6 +134,7 @@ fn find(s: &[u8], byte: u8, from: usize) -> usize
 }
 
 // A number more.
+#[tactic(auto, unfolding(crate::specs::Steps::joined))]
 fn join(n: Numbers, x: Number) -> Numbers
     ensures { result ≡ joined n x }
 {
@@ -163,6 +170,7 @@ fn join(n: Numbers, x: Number) -> Numbers
 }
 
 // The fields from a place on, each a number.
+#[tactic(auto, using(crate::proofs::Table::joined_all_more, crate::proofs::Table::joined_all_last, crate::specs::Text::fields_of, crate::proofs::Fields::fields_more, crate::proofs::Fields::fields_last), unfolding(crate::specs::Steps::table_of, terms::specs::Words::list))]
 fn gather(line: &[u8], from: usize) -> Numbers
     requires { from ≤ length line.now }
     ensures { result ≡ joined_all (table_of []) (fields_of (drop from line.now)) }
@@ -195,6 +203,7 @@ fn without_holds(call: Call) -> Line
 }
 
 // The letter and the count are these.
+#[tactic(auto, unfolding(crate::specs::Calls::asks))]
 fn asks(letter: u8, count: usize, c: u8, n: usize) -> bool
     ensures { result ≡ asks letter count c n }
 {
@@ -207,6 +216,7 @@ fn asks(letter: u8, count: usize, c: u8, n: usize) -> bool
     false
 }
 
+#[tactic(auto, unfolding(terms::specs::Words::list))]
 fn admission(v: [u64; 10]) -> Line
     ensures { result ≡ admit_of (λ i. get_or v i 0) }
 {
@@ -217,6 +227,7 @@ fn admission(v: [u64; 10]) -> Line
 }
 
 // The call that a letter and numbers ask for.
+#[tactic(auto, unfolding(crate::specs::Steps::called_by, crate::specs::Calls::call_by))]
 fn call_by(letter: u8, n: Numbers) -> Line
     ensures { result ≡ called_by letter n }
 {
@@ -253,6 +264,7 @@ fn call_by(letter: u8, n: Numbers) -> Line
 }
 
 // A line without its end, taken apart.
+#[tactic(auto, using(crate::proofs::Whole::line_long, crate::proofs::Whole::line_empty, crate::proofs::Whole::line_spaced, crate::proofs::Whole::line_alone, crate::proofs::Whole::line_wordy, crate::proofs::Whole::line_numbers), unfolding(crate::specs::Steps::table_of, terms::specs::Words::list))]
 pub fn take_apart(line: &[u8]) -> Line
     ensures { result ≡ line_of line.now }
 {
@@ -284,6 +296,7 @@ pub fn take_apart(line: &[u8]) -> Line
 }
 
 // How many digits a number has.
+#[tactic(auto, using(crate::specs::Text::digits_of, crate::specs::Text::largest_number, crate::proofs::Spelling::digits_one, crate::proofs::Spelling::width_more, crate::proofs::Spelling::width_most))]
 fn width(n: u64) -> usize
     ensures is { result ≡ length (digits_of n) }
     ensures small { (1 ≤ result) × (result ≤ 20) }
@@ -298,6 +311,7 @@ fn width(n: u64) -> usize
 }
 
 // A number's digits from a place on, and a byte behind them; the place behind that. The last digit comes first.
+#[tactic(auto, using(crate::specs::Text::digits_of, crate::specs::Text::largest_number, crate::proofs::Spelling::digits_one, crate::proofs::Spelling::digits_more, crate::proofs::Spelling::digits_least, crate::proofs::Spelling::width_more, crate::proofs::Bytes::sets_front, crate::proofs::Bytes::sets_done))]
 fn put(buffer: &mut [u8], at: usize, n: u64, w: usize, then: u8) -> usize
     requires { (w ≡ length (digits_of n)) × (at + w < length buffer.old) }
     ensures next { result ≡ at + length (ended (digits_of n) then) }
@@ -316,6 +330,7 @@ fn put(buffer: &mut [u8], at: usize, n: u64, w: usize, then: u8) -> usize
     at + w + 1
 }
 
+#[tactic(auto, unfolding(crate::specs::Answers::named_text))]
 fn named_width(named: u64) -> usize
     ensures is { result ≡ length (named_text named) }
     ensures small { (1 ≤ result) × (result ≤ 20) }
@@ -323,6 +338,7 @@ fn named_width(named: u64) -> usize
     if named < 16 { width(named) } else { 1 }
 }
 
+#[tactic(auto, using(crate::proofs::Bytes::named_slot, crate::proofs::Bytes::named_nobody))]
 fn put_named(buffer: &mut [u8], at: usize, named: u64, w: usize, then: u8) -> usize
     requires { (w ≡ length (named_text named)) × (at + w < length buffer.old) }
     ensures next { result ≡ at + length (ended (named_text named) then) }
@@ -337,6 +353,7 @@ fn put_named(buffer: &mut [u8], at: usize, named: u64, w: usize, then: u8) -> us
 }
 
 // An answer's line: the clock, the named slot or "-" (16 or more), the answer's number and its value. The bytes written; 0 if the buffer is too short.
+#[tactic(auto, using(crate::specs::Text::digits_of, crate::proofs::Bytes::ended_length, crate::proofs::Bytes::text_length, crate::proofs::Bytes::text_sets), unfolding(crate::specs::Answers::written_count, crate::specs::Answers::written))]
 pub fn print(clock: u64, named: u64, number: u8, value: u64, buffer: &mut [u8]) -> usize
     ensures count { result ≡ written_count buffer.old (text_of clock named number value) }
     ensures bytes { buffer.new ≡ written buffer.old (text_of clock named number value) }
@@ -401,6 +418,7 @@ fn room(size: usize, count: usize, part: usize) -> usize
 }
 
 // As many bytes of a stretch as find room, behind the first `count`; how many are held then.
+#[tactic(auto, unfolding(crate::specs::Input::held_with))]
 fn hold(held: &mut [u8], count: usize, part: &[u8]) -> usize
     ensures count { result ≡ count + room_for held.old count part.now }
     ensures bytes { held.new ≡ held_with held.old count part.now }
@@ -425,6 +443,7 @@ fn line_held(held: &[u8], count: usize) -> Line
 }
 
 // One step through a block. Of a line that crosses the block's end as much is held as the buffer takes: with 256 bytes, enough to tell that it is too long.
+#[tactic(auto, using(crate::proofs::Blocks::step_outside, crate::proofs::Blocks::step_rest, crate::proofs::Blocks::step_line, crate::proofs::Blocks::step_gathered))]
 pub fn next(block: &[u8], from: usize, held: &mut [u8], count: usize) -> Step
     ensures step { result ≡ step_of block.now from held.old count }
     ensures bytes { held.new ≡ held_after block.now from held.old count }
@@ -448,6 +467,7 @@ pub fn next(block: &[u8], from: usize, held: &mut [u8], count: usize) -> Step
 }
 
 // At the input's end: what is held is a line of its own.
+#[tactic(auto, unfolding(crate::specs::Input::last_of))]
 pub fn last(held: &[u8], count: usize) -> Step
     ensures { result ≡ last_of held.now count }
 {

@@ -1,4 +1,6 @@
 // What the programs write: bytes wait in a buffer, and are written together.
+#![tactic(auto)]
+
 ghost use Rattle.std.specs.Prelude.{◌≡◌, ◌≤◌, length};
 ghost use Rattle.output.specs.Output.{waiting};
 
@@ -15,6 +17,7 @@ pub fn flush(out: &[u8], used: usize) -> usize
 }
 
 // Room for so many bytes more: where it is not there, what waits is written first.
+#[tactic(auto, unfolding(crate::specs::Output::waiting))]
 pub fn with_room(out: &[u8], used: usize, room: usize) -> usize
     ensures is { result ≡ waiting (length out.now) used room }
     ensures within { result ≤ length out.now }

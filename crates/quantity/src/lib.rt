@@ -1,13 +1,15 @@
 // Two sorts of quantity, in whole ticks: an instant and a length.
 // An instant's number is private: instants are made of the clock's begin, its end and lengths alone, so nobody can add two.
+#![tactic(auto)]
+
 ghost use Rattle.std.specs.Prelude.{◌≡◌};
 ghost use Rattle.quantity.specs.Quantity.{at, ticks, later, since, less_portion, before, below, longer, shorter, larger, length_of};
 ghost use Rattle.quantity.specs.Quantity.{longest_period, largest_frame, clock_end, longest_run};
 
-#[derive(Drop)]
+#[derive(Clone, Copy)]
 pub struct Instant(u64);
 
-#[derive(Drop)]
+#[derive(Clone, Copy)]
 pub struct Length(pub u32);
 
 impl Length {
@@ -41,6 +43,7 @@ impl Length {
     }
 
     // The length of n ticks, or the longest there is: a caller's number is judged before it comes here.
+    #[tactic(auto, unfolding(crate::specs::Quantity::length_of))]
     pub fn of(n: u64) -> Length
         ensures { result ≡ length_of n }
     {
@@ -58,12 +61,14 @@ impl Length {
     }
 
     // The longer of the two.
+    #[tactic(auto, unfolding(crate::specs::Quantity::larger))]
     pub fn larger(self, other: Length) -> Length
         ensures { result ≡ larger self other }
     {
         if self.0 < other.0 { other } else { self }
     }
 
+    #[tactic(auto, unfolding(crate::specs::Quantity::longer))]
     pub fn plus(self, other: Length) -> Length
         ensures { result ≡ longer self other }
     {
@@ -74,6 +79,7 @@ impl Length {
         }
     }
 
+    #[tactic(auto, unfolding(crate::specs::Quantity::shorter))]
     pub fn less(self, other: Length) -> Length
         ensures { result ≡ shorter self other }
     {
@@ -116,6 +122,7 @@ impl Instant {
         self.0 < other.0
     }
 
+    #[tactic(auto, unfolding(crate::specs::Quantity::later))]
     pub fn plus(self, l: Length) -> Instant
         ensures { result ≡ later self l }
     {
@@ -127,6 +134,7 @@ impl Instant {
         }
     }
 
+    #[tactic(auto, unfolding(crate::specs::Quantity::since, crate::specs::Quantity::length_of))]
     pub fn since(self, other: Instant) -> Length
         ensures { result ≡ since self other }
     {
@@ -138,6 +146,7 @@ impl Instant {
     }
 
     // This instant less floor(part * l / whole).
+    #[tactic(auto, using(crate::proofs::Laws::product_below), unfolding(crate::specs::Quantity::less_portion))]
     pub fn less_portion(self, l: Length, part: Length, whole: Length) -> Instant
         ensures { result ≡ less_portion self l part whole }
     {

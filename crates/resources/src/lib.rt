@@ -1,8 +1,10 @@
 // A set of the eight resources as one number of eight bits, bit r for resource r.
+#![tactic(auto)]
+
 ghost use Rattle.std.specs.Prelude.{◌≡◌};
 ghost use Rattle.resources.specs.Resources.{has, with, without};
 
-#[derive(Drop)]
+#[derive(Clone, Copy)]
 pub struct Set(pub u8);
 
 impl Set {
@@ -18,6 +20,7 @@ impl Set {
         self.0 & (1u8 << r) != 0
     }
 
+    #[tactic(auto, unfolding(crate::specs::Resources::with))]
     pub fn insert(self, r: u8) -> Set
         ensures { result ≡ with self r }
     {

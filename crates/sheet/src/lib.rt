@@ -1,4 +1,6 @@
 // The sheet: a board's frame and table as tagged fields.
+#![tactic(auto)]
+
 ghost use Rattle.std.specs.Prelude.{◌≡◌, ◌+◌, ◌*◌, ◌≤◌, length};
 ghost use Rattle.terms.specs.Words.{list};
 ghost use Rattle.fields.specs.Numbers.{placed};
@@ -26,6 +28,7 @@ pub struct Reading {
 }
 
 // The eight holds from an offset on.
+#[tactic(auto, using(crate::proofs::Laws::placed_nothing, crate::proofs::Laws::holds_on), unfolding(crate::specs::Sheet::holds_of))]
 fn put_holds(buffer: &mut [u8], at: usize, f: Figures)
     requires { at + 32 ≤ length buffer.old }
     ensures { buffer.new ≡ placed buffer.old at (holds_of f 8) }
@@ -39,6 +42,7 @@ fn put_holds(buffer: &mut [u8], at: usize, f: Figures)
 }
 
 // A server's body from an offset on.
+#[tactic(auto, using(crate::proofs::Laws::body_on))]
 fn put_body(buffer: &mut [u8], at: usize, f: Figures)
     requires { at + 40 ≤ length buffer.old }
     ensures { buffer.new ≡ placed buffer.old at (body_of f) }
@@ -49,6 +53,7 @@ fn put_body(buffer: &mut [u8], at: usize, f: Figures)
 }
 
 // A slot's field from an offset on, if it is in the table; the answer is where the next one begins.
+#[tactic(auto, using(crate::proofs::Laws::placed_nothing, crate::proofs::Laws::slot_length, crate::proofs::Laws::slot_out, crate::proofs::Laws::slot_on))]
 fn put_slot(buffer: &mut [u8], at: usize, f: Figures) -> usize
     requires { at + length (slot_bytes f) ≤ length buffer.old }
     ensures { (result ≡ at + length (slot_bytes f)) × (buffer.new ≡ placed buffer.old at (slot_bytes f)) }
@@ -62,6 +67,7 @@ fn put_slot(buffer: &mut [u8], at: usize, f: Figures) -> usize
 }
 
 // The servers' fields behind the frame's; the answer is where the closing field begins.
+#[tactic(auto, using(crate::proofs::Laws::placed_nothing, crate::proofs::Laws::servers_none, crate::proofs::Laws::servers_longer, crate::proofs::Laws::servers_room, crate::proofs::Laws::servers_on))]
 fn put_servers(buffer: &mut [u8], table: [Figures; 16]) -> usize
     requires { 7 + length (servers_of 2 (bodies_of table 16)) ≤ length buffer.old }
     ensures { (result ≡ 7 + length (servers_of 2 (bodies_of table 16))) × (buffer.new ≡ placed buffer.old 7 (servers_of 2 (bodies_of table 16))) }
@@ -77,6 +83,7 @@ fn put_servers(buffer: &mut [u8], table: [Figures; 16]) -> usize
 }
 
 // A whole sheet into a buffer that has room for it.
+#[tactic(auto, using(crate::proofs::Laws::encode_length, crate::proofs::Laws::servers_width, crate::proofs::Laws::sheet_on))]
 fn put_sheet(buffer: &mut [u8], frame: u32, table: [Figures; 16])
     requires { length (encode frame table) ≤ length buffer.old }
     ensures { buffer.new ≡ placed buffer.old 0 (encode frame table) }
@@ -88,6 +95,7 @@ fn put_sheet(buffer: &mut [u8], frame: u32, table: [Figures; 16])
 }
 
 // The servers in the table.
+#[tactic(auto, using(crate::proofs::Laws::count_next), unfolding(crate::specs::Sheet::bodies_of))]
 fn servers(table: [Figures; 16]) -> usize
     ensures { (result ≡ length (bodies_of table 16)) × (result ≤ 16) }
 {
@@ -102,6 +110,7 @@ fn servers(table: [Figures; 16]) -> usize
 }
 
 // One for a slot in the table.
+#[tactic(auto, using(crate::proofs::Laws::slot_length, crate::proofs::Laws::slot_out))]
 fn one(f: Figures) -> usize
     ensures { (result * 43 ≡ length (slot_bytes f)) × (result ≤ 1) }
 {
@@ -109,6 +118,7 @@ fn one(f: Figures) -> usize
 }
 
 // Writing is allowed in either phase once a frame is set.
+#[tactic(auto, using(fields::proofs::Placing::placed_out, crate::proofs::Laws::encode_length), unfolding(crate::specs::Sheet::written, crate::specs::Sheet::filled))]
 pub fn write(board: Board, buffer: &mut [u8]) -> Written
     ensures { (result ≡ written board (length buffer.old)) × (buffer.new ≡ filled board buffer.old) }
 {
@@ -134,6 +144,7 @@ pub fn write(board: Board, buffer: &mut [u8]) -> Written
 }
 
 // The k-th number of a body.
+#[tactic(auto, unfolding(crate::specs::Sheet::number_at))]
 fn number_at(body: &[u8], k: usize) -> u64
     requires { 4 * k + 4 ≤ length body.now }
     ensures { result ≡ number_at body.now k }
@@ -144,6 +155,7 @@ fn number_at(body: &[u8], k: usize) -> u64
 }
 
 // The eight holds of a body.
+#[tactic(auto, using(crate::proofs::Answers::numbers_list), unfolding(crate::specs::Steps::numbers_set))]
 fn holds_in(body: &[u8]) -> [u64; 8]
     requires { 40 ≤ length body.now }
     ensures { result ≡ list (λ i. number_at body.now (i + 2)) 8 }
@@ -159,6 +171,7 @@ fn holds_in(body: &[u8]) -> [u64; 8]
 }
 
 // A server's body handed to admission.
+#[tactic(auto, unfolding(crate::specs::Sheet::entered))]
 fn enter(board: Board, body: &[u8]) -> Outcome
     requires { 40 ≤ length body.now }
     ensures { result ≡ entered board body.now }
@@ -181,6 +194,7 @@ fn refused(number: u8, offset: usize) -> Reading
     }
 }
 
+#[tactic(auto, using(crate::proofs::Answers::answered_refused, crate::proofs::Answers::answered_done))]
 fn answered(o: Outcome, tag: usize) -> Reading
     ensures { result ≡ answered o tag }
 {
@@ -198,6 +212,7 @@ fn answered(o: Outcome, tag: usize) -> Reading
 }
 
 // The frame.
+#[tactic(auto, unfolding(crate::specs::Sheet::read_first))]
 fn begin(sheet: &[u8]) -> Reading
     requires { 7 ≤ length sheet.now }
     ensures { result ≡ read_first sheet.now 0 }
@@ -211,6 +226,7 @@ fn begin(sheet: &[u8]) -> Reading
 }
 
 // The i-th server, where nothing before it was refused: its body is the stretch of the sheet behind its head.
+#[tactic(auto, using(crate::proofs::Answers::onward_refused, crate::proofs::Answers::onward_next))]
 fn onward(r: Reading, sheet: &[u8], i: usize) -> Reading
     requires { 50 + 43 * i ≤ length sheet.now }
     ensures { result ≡ onward r sheet.now i }
@@ -227,6 +243,7 @@ fn onward(r: Reading, sheet: &[u8], i: usize) -> Reading
 }
 
 // The frame and the first n servers.
+#[tactic(auto, using(crate::proofs::Answers::first_next))]
 fn read_first(sheet: &[u8], n: usize) -> Reading
     requires { 7 + 43 * n ≤ length sheet.now }
     ensures { result ≡ read_first sheet.now n }
@@ -241,6 +258,7 @@ fn read_first(sheet: &[u8], n: usize) -> Reading
 }
 
 // Reading takes no earlier board and is allowed at any time.
+#[tactic(auto, using(fields::proofs::Numbers::slice_bytes, fields::proofs::Old::old_good, fields::proofs::Old::old_length, crate::proofs::Answers::read_good, crate::proofs::Answers::read_bad))]
 pub fn read(sheet: &[u8]) -> Reading
     ensures { result ≡ read_of sheet.now }
 {

@@ -1,4 +1,6 @@
 // The sheets program: each line of standard input a sheet in lower-case hex; its answer and value, and an accepted sheet written back.
+#![tactic(auto)]
+
 ghost use Rattle.std.specs.Prelude.{◌≤◌, ◌<◌, length, ◌≡◌};
 
 use board::Board;

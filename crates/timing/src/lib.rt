@@ -1,11 +1,13 @@
 // One server: what was admitted stands apart from what changes, so that the table is one array and the lives another.
+#![tactic(auto)]
+
 ghost use Rattle.std.specs.Prelude.{◌≡◌};
 ghost use Rattle.timing.specs.Timing.{is_ready, is_started, is_stopped, due, present, hold, largest_hold, begun, in_state, tr, replenished, waits, arrived, lacking, asked, comes, ended, settled, woken, held_on, ran};
 
 use quantity::{Instant, Length};
 
 // What was admitted. A slot whose period is 0 is not in the table.
-#[derive(Drop)]
+#[derive(Clone, Copy)]
 pub struct Figures {
     pub period: Length,
     pub budget: Length,
@@ -13,14 +15,14 @@ pub struct Figures {
 }
 
 // What a ready server holds, and for how many ticks it has run since it locked.
-#[derive(Drop)]
+#[derive(Clone, Copy)]
 pub enum Lock {
     Free,
     On(u8, Length),
 }
 
 // The started mark and the lock are a ready server's alone: no other state can be written with one.
-#[derive(Drop)]
+#[derive(Clone, Copy)]
 pub enum State {
     Idle,
     Ready { started: bool, lock: Lock },
@@ -30,7 +32,7 @@ pub enum State {
 }
 
 // What changes: the state, the budget left and the deadline.
-#[derive(Drop)]
+#[derive(Clone, Copy)]
 pub struct Life {
     pub state: State,
     pub left: Length,
@@ -38,14 +40,14 @@ pub struct Life {
 }
 
 // What a rule answers: done or granted, suspended until an instant, or renewed.
-#[derive(Drop)]
+#[derive(Clone, Copy)]
 pub enum Ruling {
     Done,
     Suspended(Instant),
     Renewed,
 }
 
-#[derive(Drop)]
+#[derive(Clone, Copy)]
 pub struct Ruled {
     pub life: Life,
     pub ruling: Ruling,
@@ -65,6 +67,7 @@ impl Figures {
         self.period.0 != 0
     }
 
+    #[tactic(auto, unfolding(crate::specs::Timing::hold))]
     pub fn hold(self, r: u8) -> Length
         ensures { result ≡ hold self r }
     {
@@ -75,6 +78,7 @@ impl Figures {
         Length::NONE
     }
 
+    #[tactic(auto, using(terms::proofs::Over::largest_next, quantity::proofs::Laws::larger_is, crate::specs::Timing::Text::largest_hold_is), unfolding(terms::specs::Words::largest))]
     pub fn largest_hold(self) -> Length
         ensures { result ≡ largest_hold self }
     {
@@ -88,6 +92,7 @@ impl Figures {
         most
     }
 
+    #[tactic(auto, using(crate::specs::Timing::Text::replenished_is))]
     pub fn replenish(self, from: Instant) -> Life
         ensures { result ≡ replenished self from }
     {
@@ -187,6 +192,7 @@ impl Life {
     }
 
     // The replenishment instant.
+    #[tactic(auto, using(quantity::proofs::Laws::less_portion_is, crate::specs::Timing::Text::tr_is))]
     pub fn tr(self, f: Figures) -> Instant
         ensures { result ≡ tr f self }
     {
@@ -206,6 +212,7 @@ impl Life {
     }
 
     // An idle server arrives.
+    #[tactic(auto, using(crate::specs::Timing::Text::arrived_is, terms::proofs::Tests::test_of))]
     pub fn arrive(self, f: Figures, now: Instant) -> Ruled
         ensures { result ≡ arrived f self now }
     {
@@ -221,6 +228,7 @@ impl Life {
     }
 
     // A lock is asked for with too little left.
+    #[tactic(auto, using(terms::proofs::Tests::test_of), unfolding(crate::specs::Timing::lacking))]
     fn lack(self, f: Figures, now: Instant) -> Ruled
         ensures { result ≡ lacking f self now }
     {
@@ -236,6 +244,7 @@ impl Life {
     }
 
     // A ready server asks for resource r, which it may have but for its budget.
+    #[tactic(auto, using(crate::specs::Timing::Text::asked_is, terms::proofs::Tests::test_of))]
     pub fn lock(self, f: Figures, r: u8, now: Instant) -> Ruled
         ensures { result ≡ asked f self r now }
     {
@@ -254,6 +263,7 @@ impl Life {
     }
 
     // A server that waits for t is replenished from t once now reaches it.
+    #[tactic(auto, unfolding(crate::specs::Timing::comes))]
     fn come(self, f: Figures, t: Instant, now: Instant) -> Life
         ensures { result ≡ comes f self t now }
     {
@@ -265,6 +275,7 @@ impl Life {
     }
 
     // A ready server without a lock: spent if nothing is left.
+    #[tactic(auto, unfolding(crate::specs::Timing::ended))]
     fn end(self, f: Figures, now: Instant) -> Life
         ensures { result ≡ ended f self now }
     {
@@ -277,6 +288,7 @@ impl Life {
     }
 
     // The spent rule, after a tick or an unlock.
+    #[tactic(auto, using(crate::specs::Timing::Text::settled_is))]
     pub fn settle(self, f: Figures, now: Instant) -> Life
         ensures { result ≡ settled f self now }
     {
@@ -294,6 +306,7 @@ impl Life {
     }
 
     // Whether the instant that it waits for has come.
+    #[tactic(auto, unfolding(crate::specs::Timing::due))]
     pub fn is_due(self, now: Instant) -> bool
         ensures { result ≡ due self now }
     {
@@ -312,6 +325,7 @@ impl Life {
     }
 
     // The server is replenished if its instant has come.
+    #[tactic(auto, using(crate::specs::Timing::Text::woken_is))]
     pub fn wake(self, f: Figures, now: Instant) -> Life
         ensures { result ≡ woken f self now }
     {
@@ -330,6 +344,7 @@ impl Life {
     }
 
     // One tick of the server that runs.
+    #[tactic(auto, using(crate::specs::Timing::Text::ran_is))]
     pub fn tick(self) -> Life
         ensures { result ≡ ran self }
     {
