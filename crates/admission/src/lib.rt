@@ -11,7 +11,7 @@ use quantity::Length;
 use timing::Figures;
 
 // The judgement: 0 with the figures as they are kept, or the number of the rule that is broken.
-#[derive(Drop)]
+#[derive(Clone, Copy)]
 pub struct Judged {
     pub number: u8,
     pub figures: Figures,
