@@ -14,7 +14,7 @@ use quantity::{Instant, Length};
 use resources::Set;
 use timing::{Figures, Life};
 
-#[derive(Drop)]
+#[derive(Clone, Copy)]
 pub struct Board {
     pub frame: Length,
     pub running: bool,
@@ -26,7 +26,7 @@ pub struct Board {
 }
 
 // What a call answers; `number` and `value` give document 01's numbers.
-#[derive(Drop)]
+#[derive(Clone, Copy)]
 pub enum Answer {
     Done(u64),
     Refused(u8),
@@ -35,28 +35,28 @@ pub enum Answer {
     Overheld,
 }
 
-#[derive(Drop)]
+#[derive(Clone, Copy)]
 pub struct Outcome {
     pub board: Board,
     pub answer: Answer,
 }
 
 // A slot, or nobody.
-#[derive(Drop)]
+#[derive(Clone, Copy)]
 pub enum Choice {
     Nobody,
     Slot(usize),
 }
 
 // The ceiling of a resource or of the board: a period, or none.
-#[derive(Drop)]
+#[derive(Clone, Copy)]
 pub enum Ceiling {
     Absent,
     Period(Length),
 }
 
 // The best of the slots looked at so far, with its deadline.
-#[derive(Drop)]
+#[derive(Clone, Copy)]
 pub struct Best {
     any: bool,
     slot: usize,
@@ -64,7 +64,7 @@ pub struct Best {
 }
 
 // Why a run ends: all its ticks have passed, a server was spent or replenished, a held count reached its hold.
-#[derive(Drop)]
+#[derive(Clone, Copy)]
 pub enum Reason {
     Whole,
     Changed,
@@ -72,14 +72,14 @@ pub enum Reason {
 }
 
 // One tick, as the definition `ticked` says it: the board after it, and whether it ends a run.
-#[derive(Drop)]
+#[derive(Clone, Copy)]
 pub struct Ticked {
     pub board: Board,
     pub reason: Reason,
 }
 
 // A run: the board after it, the ticks that passed, and why it ended.
-#[derive(Drop)]
+#[derive(Clone, Copy)]
 pub struct Ran {
     pub board: Board,
     pub ticks: u64,

@@ -11,7 +11,7 @@ use quantity::{Instant, Length};
 use timing::{Figures, Life, Lock, State};
 
 // The instant that somebody waits for, or none.
-#[derive(Drop)]
+#[derive(Clone, Copy)]
 pub enum Wait {
     Never,
     Until(Instant),
@@ -239,8 +239,8 @@ impl Board {
     // Slot m is named, and stays so: only its life and the clock change, until a tick ends the run.
     #[tactic(auto, using(crate::proofs::Ticks::whole_if, crate::proofs::Loop::turn_whole, crate::proofs::Loop::ends_same, crate::proofs::Loop::worked_to, crate::proofs::Loop::worked_same, crate::proofs::Loop::name_on, crate::proofs::Loop::work_on, crate::proofs::Loop::work_event))]
     fn work(self, m: usize, n: u64) -> Ran
-        requires self_value { named self ≡ Slot m }
-        requires m_bound { m < 16 }
+        requires m_named { named self ≡ Slot m }
+        requires m_slot { m < 16 }
         ensures { result ≡ ran_from self 0 n }
     {
         let lives = self.lives;
