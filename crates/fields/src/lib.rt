@@ -67,7 +67,7 @@ pub fn read2(part: &[u8]) -> u16
 }
 
 // A number as four bytes from an offset on; nothing moves where they do not fit.
-#[tactic(auto, using(crate::proofs::Placing::placed_out, crate::proofs::Placing::placed_sets), unfolding(crate::specs::Numbers::bytes_of))]
+#[tactic(auto, using(crate::proofs::Placing::placed_out), unfolding(crate::specs::Numbers::bytes_of))]
 pub fn put4(buffer: &mut [u8], at: usize, x: u32)
     ensures { buffer.new ≡ placed buffer.old at (bytes_of 4 x) }
 {
@@ -84,7 +84,7 @@ pub fn put4(buffer: &mut [u8], at: usize, x: u32)
 }
 
 // A number as two bytes from an offset on; nothing moves where they do not fit.
-#[tactic(auto, using(crate::proofs::Placing::placed_out, crate::proofs::Placing::placed_sets), unfolding(crate::specs::Numbers::bytes_of))]
+#[tactic(auto, using(crate::proofs::Placing::placed_out), unfolding(crate::specs::Numbers::bytes_of))]
 pub fn put2(buffer: &mut [u8], at: usize, x: u16)
     ensures { buffer.new ≡ placed buffer.old at (bytes_of 2 x) }
 {
@@ -99,7 +99,7 @@ pub fn put2(buffer: &mut [u8], at: usize, x: u16)
 }
 
 // A field's head from an offset on; nothing moves where it does not fit.
-#[tactic(auto, using(crate::proofs::Placing::placed_out, crate::proofs::Placing::placed_sets), unfolding(crate::specs::Numbers::bytes_of))]
+#[tactic(auto, using(crate::proofs::Placing::placed_out), unfolding(crate::specs::Numbers::bytes_of))]
 pub fn put_head(buffer: &mut [u8], at: usize, tag: u8, size: u16)
     ensures { buffer.new ≡ placed buffer.old at (head_of tag size) }
 {
@@ -214,7 +214,7 @@ fn place_at(sheet: &[u8], at: usize, tag: u8) -> Place
 }
 
 // The walk over the fields behind the frame's.
-#[tactic(auto, using(crate::proofs::Places::server_end, crate::proofs::Places::from_server, crate::proofs::Places::from_last, crate::proofs::Places::from_bad))]
+#[tactic(auto, using(crate::proofs::Places::server_end))]
 fn form_from(sheet: &[u8], tag: u8) -> Form
     requires { 7 ≤ length sheet.now }
     ensures { result ≡ form_from tag (body_fits tag) sheet.now (length sheet.now) 7 0 }

@@ -26,12 +26,14 @@ holding? (stopped q z d) = inr (λ r h a. a)
 
 holds_one : (v : View) (r h r' h' : ℕ) → Holds v r h → Holds v r' h' → (r ≡ r') × (h ≡ h')
 holds_one (ready q z d b (on x y)) r h r' h' a c = (sym a.0 ∙ c.0, sym a.1 ∙ c.1)
+holds_one _ r h r' h' a c = elim a [ ]
 
 module _ (t : Table) where
   -- I4: it has held for no longer than its hold
   pub within_hold : (now i : ℕ) (v : View) (r h : ℕ) → Local t now i v → Holds v r h → h ≤ t.H i r
   within_hold now i (ready q z d true (on x y)) r h k a = rw (← a.0, ← a.1) k.3.1
   within_hold now i (ready q z d false (on x y)) r h k a = absurd k.3
+  within_hold now i _ r h k a = elim a [ ]
 
   -- a tick adds one to the held count
   tick_holds : (i : ℕ) (v v' : View) (r h : ℕ) → Ticks t i v v' → Holds v r h → Holds v' r (suc h)

@@ -46,7 +46,7 @@ struct Numbers {
 }
 
 // A digit more.
-#[tactic(auto, using(crate::specs::Text::largest_number), unfolding(crate::specs::Steps::pushed))]
+#[tactic(auto, unfolding(crate::specs::Steps::pushed))]
 fn push(n: Number, byte: u8) -> Number
     ensures { result ≡ pushed n byte }
 {
@@ -118,7 +118,7 @@ fn digits(s: &[u8]) -> Number
 }
 
 // The place of the first such byte at or behind a place; the end of the bytes if there is none.
-#[tactic(auto, using(crate::specs::Text::before, crate::proofs::Fields::before_here, crate::proofs::Fields::before_on, crate::proofs::Fields::before_end))]
+#[tactic(auto, using(crate::proofs::Fields::before_here, crate::proofs::Fields::before_on, crate::proofs::Fields::before_end))]
 fn find(s: &[u8], byte: u8, from: usize) -> usize
     ensures is { result ≡ from + before byte (drop from s.now) }
     ensures within { (from ≤ result) × (result ≤ max from (length s.now)) }
@@ -170,7 +170,7 @@ fn join(n: Numbers, x: Number) -> Numbers
 }
 
 // The fields from a place on, each a number.
-#[tactic(auto, using(crate::proofs::Table::joined_all_more, crate::proofs::Table::joined_all_last, crate::specs::Text::fields_of, crate::proofs::Fields::fields_more, crate::proofs::Fields::fields_last), unfolding(crate::specs::Steps::table_of, terms::specs::Words::list))]
+#[tactic(auto, using(crate::proofs::Table::joined_all_more, crate::proofs::Table::joined_all_last, crate::proofs::Fields::fields_more, crate::proofs::Fields::fields_last), unfolding(crate::specs::Steps::table_of, terms::specs::Words::list))]
 fn gather(line: &[u8], from: usize) -> Numbers
     requires { from ≤ length line.now }
     ensures { result ≡ joined_all (table_of []) (fields_of (drop from line.now)) }
@@ -296,7 +296,7 @@ pub fn take_apart(line: &[u8]) -> Line
 }
 
 // How many digits a number has.
-#[tactic(auto, using(crate::specs::Text::digits_of, crate::specs::Text::largest_number, crate::proofs::Spelling::digits_one, crate::proofs::Spelling::width_more, crate::proofs::Spelling::width_most))]
+#[tactic(auto, using(crate::proofs::Spelling::digits_one, crate::proofs::Spelling::width_more, crate::proofs::Spelling::width_most))]
 fn width(n: u64) -> usize
     ensures is { result ≡ length (digits_of n) }
     ensures small { (1 ≤ result) × (result ≤ 20) }
@@ -311,7 +311,7 @@ fn width(n: u64) -> usize
 }
 
 // A number's digits from a place on, and a byte behind them; the place behind that. The last digit comes first.
-#[tactic(auto, using(crate::specs::Text::digits_of, crate::specs::Text::largest_number, crate::proofs::Spelling::digits_one, crate::proofs::Spelling::digits_more, crate::proofs::Spelling::digits_least, crate::proofs::Spelling::width_more, crate::proofs::Bytes::sets_front, crate::proofs::Bytes::sets_done))]
+#[tactic(auto, using(crate::proofs::Spelling::digits_one, crate::proofs::Spelling::digits_more, crate::proofs::Spelling::digits_least, crate::proofs::Spelling::width_more, crate::proofs::Bytes::sets_front, crate::proofs::Bytes::sets_done))]
 fn put(buffer: &mut [u8], at: usize, n: u64, w: usize, then: u8) -> usize
     requires { (w ≡ length (digits_of n)) × (at + w < length buffer.old) }
     ensures next { result ≡ at + length (ended (digits_of n) then) }
@@ -353,7 +353,7 @@ fn put_named(buffer: &mut [u8], at: usize, named: u64, w: usize, then: u8) -> us
 }
 
 // An answer's line: the clock, the named slot or "-" (16 or more), the answer's number and its value. The bytes written; 0 if the buffer is too short.
-#[tactic(auto, using(crate::specs::Text::digits_of, crate::proofs::Bytes::ended_length, crate::proofs::Bytes::text_length, crate::proofs::Bytes::text_sets), unfolding(crate::specs::Answers::written_count, crate::specs::Answers::written))]
+#[tactic(auto, using(crate::proofs::Bytes::ended_length, crate::proofs::Bytes::text_length, crate::proofs::Bytes::text_sets), unfolding(crate::specs::Answers::written_count, crate::specs::Answers::written))]
 pub fn print(clock: u64, named: u64, number: u8, value: u64, buffer: &mut [u8]) -> usize
     ensures count { result ≡ written_count buffer.old (text_of clock named number value) }
     ensures bytes { buffer.new ≡ written buffer.old (text_of clock named number value) }
