@@ -8,7 +8,7 @@ use board::{Answer, Board, Choice, Outcome};
 use lines::{Call, Line};
 
 // The next board, and the answer's number and value.
-#[derive(Drop)]
+#[derive(Clone, Copy)]
 pub struct Told {
     pub board: Board,
     pub number: u8,
@@ -16,7 +16,7 @@ pub struct Told {
 }
 
 // The clock and the named slot, 16 for nobody.
-#[derive(Drop)]
+#[derive(Clone, Copy)]
 pub struct Shown {
     pub clock: u64,
     pub named: u64,

@@ -9,7 +9,7 @@ ghost use Rattle.fields.specs.Bodies.{body_fits};
 ghost use Rattle.fields.specs.Old.{old_body, form_of};
 
 // What stands at an offset: nothing, a field that is cut off, or a field's tag, its body's start and its body's length.
-#[derive(Drop)]
+#[derive(Clone, Copy)]
 pub enum Head {
     Missing,
     Cut,
@@ -17,7 +17,7 @@ pub enum Head {
 }
 
 // What stands where a server's field or the closing field is expected: a server's with its end, the closing one, or the offset of a bad one.
-#[derive(Drop)]
+#[derive(Clone, Copy)]
 enum Place {
     Server(usize),
     Last,
@@ -25,7 +25,7 @@ enum Place {
 }
 
 // A sheet in form with so many servers, or one that is not, with the offset of its first bad field.
-#[derive(Drop)]
+#[derive(Clone, Copy)]
 pub struct Form {
     pub good: bool,
     pub offset: usize,

@@ -10,7 +10,7 @@ ghost use Rattle.lines.specs.Input.{one_line, no_line, room_for, held_with, step
 ghost use Rattle.lines.specs.Steps.{nought, pushed, pushed_all, number_of, joined, joined_all, table_of, called_by};
 
 // What a line asks for.
-#[derive(Drop)]
+#[derive(Clone, Copy)]
 pub enum Call {
     Open(u64),
     Admit(u64, u64),
@@ -24,21 +24,21 @@ pub enum Call {
 }
 
 // A call with its holds, which are 0 but for an admission.
-#[derive(Drop)]
+#[derive(Clone, Copy)]
 pub struct Line {
     pub call: Call,
     pub holds: [u64; 8],
 }
 
 // A field read as a number, as far as it is one.
-#[derive(Drop)]
+#[derive(Clone, Copy)]
 struct Number {
     ok: bool,
     value: u64,
 }
 
 // The numbers behind the letter, as far as they are well formed.
-#[derive(Drop)]
+#[derive(Clone, Copy)]
 struct Numbers {
     ok: bool,
     count: usize,
@@ -373,7 +373,7 @@ pub fn print(clock: u64, named: u64, number: u8, value: u64, buffer: &mut [u8]) 
 }
 
 // What a step through a block finds: a line that ended there, or none; the place to go on from, and how many bytes are held now.
-#[derive(Drop)]
+#[derive(Clone, Copy)]
 pub struct Step {
     pub got: bool,
     pub line: Line,

@@ -13,14 +13,14 @@ use board::{Board, Outcome};
 use timing::Figures;
 
 // What writing answers: document 01's number, and the number of bytes written.
-#[derive(Drop)]
+#[derive(Clone, Copy)]
 pub struct Written {
     pub number: u8,
     pub value: u64,
 }
 
 // What reading answers: document 01's number, the offset of the refused field's tag, and the board that is yielded.
-#[derive(Drop)]
+#[derive(Clone, Copy)]
 pub struct Reading {
     pub number: u8,
     pub offset: u64,
