@@ -63,6 +63,10 @@ module _ (q d : ℕ) where
 
   pub ready_out : (s : State) → abstract.Ready (view_in s q d) → is_ready s ≡ true
   ready_out (Ready s k) a = refl
+  ready_out Idle a = elim a [ ]
+  ready_out (Suspended _) a = elim a [ ]
+  ready_out Spent a = elim a [ ]
+  ready_out Stopped a = elim a [ ]
 
   pub started_in : (s : State) → is_started s ≡ true → Started (view_in s q d)
   started_in (Ready true Free) e = tt
@@ -78,6 +82,10 @@ module _ (q d : ℕ) where
   started_out (Ready true (On r n)) a = refl
   started_out (Ready false Free) a = absurd a
   started_out (Ready false (On r n)) a = absurd a
+  started_out Idle a = elim a [ ]
+  started_out (Suspended _) a = elim a [ ]
+  started_out Spent a = elim a [ ]
+  started_out Stopped a = elim a [ ]
 
   pub fresh_in : (s : State) → is_ready s ≡ true → is_started s ≡ false → Fresh (view_in s q d)
   fresh_in (Ready false Free) e f = tt

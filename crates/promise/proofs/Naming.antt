@@ -81,7 +81,7 @@ module _ (n l : ℕ) (t : List Figures) (w : Kept n l t) where
         let e = figures_same x in
         and_in _ _ (ap (λ (f : Figures). present f) e ∙ w.standing.servers x h) (ap (λ (f : Figures). ltb 0 (hold f r).0) e ∙ lt-ltb _ _ u)
 
-    lets_start : (i : ℕ) → clears (figures_at b i).period (ceiling b) ≡ true → (r : ℕ) → has b.locked r ≡ true → ceilings.clears (servers_of n l t) i r
+    lets_start : (i : ℕ) → clears (figures_at b i).period (ceiling b) ≡ true → (r : ℕ) → has b.locked r ≡ true → ceilings.Clears (servers_of n l t) i r
     lets_start i c r k x h u =
         let p = all_clear b (figures_at b i).period c r x (resource_of (slot_of t x) r u) k (omega (arith, w.standing.few)) (uses_in_lem x r h.0 u) in
         omega (arith, p, ap (λ (f : Figures). f.period.0) (figures_same i), ap (λ (f : Figures). f.period.0) (figures_same x))

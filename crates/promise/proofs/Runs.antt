@@ -275,6 +275,7 @@ all_pass (suc (suc n)) b m k u =
 pub each_takes : EachTakes
 unfolding single
 each_takes b m n u zero l = (u.name, omega arith)
+each_takes b m zero u (suc k) l = elim l [ ]
 each_takes b m (suc zero) u (suc k) l = absurd (omega arith)
 each_takes b m (suc (suc n)) u (suc k) l =
     let (p, q) = each_takes (ticked b).board m (suc n) (stays b m n u) k (omega arith) in
