@@ -1,2 +1,4 @@
+pub mod Fewer
+pub mod Laws
 pub mod Steps
 pub mod Theorem2

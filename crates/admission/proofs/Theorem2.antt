@@ -10,8 +10,9 @@ use Rattle.terms.specs.Words.{when, sum}
 use Rattle.terms.proofs.Tests.{and_left}
 use Rattle.timing.specs.declared.Figures.{Figures}
 use Rattle.admission.specs.Admission.{slots, in_table, period_of, budget_of, load, longest_wait, passes}
-use Rattle.admission.specs.Admission.Laws.{present_out, passes_in, passes_out}
+use Rattle.admission.specs.Admission.Laws.{present_out}
 use Rattle.admission.specs.Admission.Text.{load_is}
+use Rattle.admission.proofs.Laws.{passes_in, passes_out}
 use Rattle.admission.specs.Published.{Fraction, plus, AtMostOne, when_counts, total, alpha, Holds}
 
 module _ (l : ℕ) (pos : 0 < l) where

@@ -1,6 +1,5 @@
 -- Admission (document 01, "Numbers" and "Admission"): who may be in the table, and the judgement of a newcomer.
 pub mod Laws
-pub mod Fewer
 pub mod Judging
 pub mod Text
 use Rattle.std.specs.Prelude.{ℕ, ◌+◌, ◌*◌, ◌/◌, ◌%◌, ◌<◌, ◌≤◌, ◌≡◌, ◌⊎◌, Bool, true, false, not, ◌&&◌, ◌||◌, List, [], get_or, set, ltb, leb, eqb}

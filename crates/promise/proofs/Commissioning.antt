@@ -15,7 +15,7 @@ use Rattle.quantity.proofs.Laws.{length_of_exact}
 use Rattle.timing.specs.declared.Figures.{Figures}
 use Rattle.timing.specs.Timing.{present, Ranged}
 use Rattle.admission.specs.Admission.{slots, slot_of, placed, figures_of, nobody}
-use Rattle.admission.specs.Admission.Laws.{passes_in}
+use Rattle.admission.proofs.Laws.{passes_in}
 use Rattle.board.specs.declared.Board.{Board}
 use Rattle.board.specs.Calls.{fresh, admitted}
 use Rattle.guarantee.specs.Lawful.{Lawful}

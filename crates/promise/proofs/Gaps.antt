@@ -12,7 +12,7 @@ use Rattle.terms.proofs.Tests.{not_both}
 use Rattle.timing.specs.declared.Figures.{Figures}
 use Rattle.timing.specs.Timing.{present, Ranged}
 use Rattle.admission.specs.Admission.{slots, slot_of, period_of, budget_of, hold_of, in_table, load, passes}
-use Rattle.admission.specs.Admission.Fewer.{passes_less_one}
+use Rattle.admission.proofs.Fewer.{passes_less_one}
 use Rattle.guarantee.specs.Table.{Table}
 use Rattle.guarantee.specs.Lawful.{Lawful}
 use Rattle.guarantee.specs.TableDividing.{table}

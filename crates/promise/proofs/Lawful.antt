@@ -9,7 +9,8 @@ use Rattle.quantity.specs.Quantity.{largest_frame}
 use Rattle.timing.specs.declared.Figures.{Figures}
 use Rattle.timing.specs.Timing.{Ranged}
 use Rattle.admission.specs.Admission.{slots, slot_of, period_of, budget_of, hold_of, in_table, load, passes, Ranges}
-use Rattle.admission.specs.Admission.Laws.{ADM, load_parts}
+use Rattle.admission.specs.Admission.Laws.{load_parts}
+use Rattle.admission.proofs.Laws.{ADM}
 use Rattle.sheet.proofs.Standing.{Standing}
 use Rattle.guarantee.specs.Table.{Table, Wait, nobody, holder}
 use Rattle.guarantee.specs.Lawful.{Lawful}

@@ -1,20 +1,19 @@
 -- What admission states, for the crates above: each follows from the definitions by taking their tests apart.
 use Prim.Native.Nat.{ℕ, zero, suc, ◌+◌, ◌-◌, ◌*◌, ◌/◌, ◌<◌, ◌≤◌}
-use Rattle.std.specs.Prelude.{◌≡◌, refl, ◌⊎◌, ◌≢◌, Bool, false, ◌&&◌, ◌||◌, List, leb}
+use Rattle.std.specs.Prelude.{◌≡◌, refl, ◌⊎◌, ◌≢◌, Bool, false, ◌&&◌, List, leb}
 use Rattle.std.proofs.Math.Path.{ap}
-use Rattle.std.proofs.Common.{◌∙◌, inl, inr, arith, mul-le-mul_right, add-zero, add-suc}
-use Rattle.std.proofs.Math.Logic.{⊎_elim}
+use Rattle.std.proofs.Common.{◌∙◌, inl, inr, arith, add-zero, add-suc}
 use Rattle.std.proofs.Math.Bool.{true, not}
 use Rattle.std.proofs.Math.Decide.{dec_le}
 use Rattle.std.proofs.Math.Dec.{ltb}
-use borrow.Author.Tests.{lt-ltb, ltb-true, le-leb, leb-true, eq-eqb, ne_eqb, not-true}
+use borrow.Author.Tests.{lt-ltb, ltb-true, le-leb, leb-true, eq-eqb, ne_eqb}
 use Rattle.terms.specs.Words.{when, sum, largest}
-use Rattle.terms.proofs.Over.{sum_le, largest_upper, largest_one, every_in, every_out, some_in, some_out}
-use Rattle.terms.proofs.Tests.{not_both, true_or_false, and_in, and_left, and_right, or_right, or_left, or_out}
+use Rattle.terms.proofs.Over.{sum_le, largest_upper, largest_one, some_in, some_out}
+use Rattle.terms.proofs.Tests.{not_both, and_in, and_left, and_right}
 use Rattle.quantity.specs.declared.Length.{Length}
 use Rattle.timing.specs.declared.Figures.{Figures}
 use Rattle.timing.specs.Timing.Laws.{hold_outside}
-use Rattle.admission.specs.Admission.{slots, slot_of, in_table, period_of, budget_of, hold_of, load, used, longest_wait, Ranges, fits_at, passes}
+use Rattle.admission.specs.Admission.{slots, slot_of, in_table, period_of, budget_of, hold_of, load, used, longest_wait, Ranges}
 
 module _ (t : List Figures) where
   -- a slot is in the table exactly if its period is not 0
@@ -89,26 +88,6 @@ module _ (t : List Figures) where
       by_server : ((j : ℕ) × (j < slots) × (W ≡ largest (counts p j) 8)) ⊎ (W ≡ 0) → Ranges t p W ⊎ (W ≡ 0)
       by_server (inl (j, h, e)) = by_resource j h e (largest_one (counts p j) 8)
       by_server (inr z) = inr z
-
-  -- the test passes exactly if it is met for every k of the table
-  module _ (l : ℕ) where
-    pub passes_in : ((k : ℕ) → k < slots → in_table t k ≡ true → load t l (period_of t k) + longest_wait t (period_of t k) * (l / period_of t k) ≤ l) → passes t l ≡ true
-    unfolding passes
-    passes_in f = every_in (λ k. not (in_table t k) || fits_at t l (period_of t k)) slots (λ k h.
-        ⊎_elim (λ e. or_right (not (in_table t k)) _ (le-leb _ _ (f k h e))) (λ e. or_left (not (in_table t k)) _ (ap not e)) (true_or_false (in_table t k)))
-
-    pub passes_out : passes t l ≡ true → (k : ℕ) → k < slots → in_table t k ≡ true → load t l (period_of t k) + longest_wait t (period_of t k) * (l / period_of t k) ≤ l
-    unfolding passes
-    passes_out e k h i =
-        ⊎_elim (λ n. absurd (not_both i (not-true _ n))) (λ m. leb-true _ _ m)
-        (or_out (not (in_table t k)) (fits_at t l (period_of t k)) (every_out (λ k. not (in_table t k) || fits_at t l (period_of t k)) slots e k h))
-
-    -- ADM, with M = L: the load of the periods up to P_k, and any wait
-    pub ADM : passes t l ≡ true → (k h : ℕ) → k < slots → in_table t k ≡ true → (h ≡ 0) ⊎ Ranges t (period_of t k) h
-        → load t l (period_of t k) + h * (l / period_of t k) ≤ l
-    ADM e k h b i w =
-        let m : h ≤ longest_wait t (period_of t k) = ⊎_elim (λ z. omega arith) (λ r. wait_upper (period_of t k) h r) w in
-        omega (arith, passes_out e k b i, mul-le-mul_right (l / period_of t k) m)
 
 -- the load is at least the parts of some of the servers in the slots below n
 sum_more : (f : ℕ → ℕ) (n k : ℕ) → sum f n ≤ sum f (n + k)

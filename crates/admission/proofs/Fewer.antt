@@ -10,7 +10,9 @@ use Rattle.terms.proofs.Tests.{not_both}
 use Rattle.timing.specs.declared.Figures.{Figures}
 use Rattle.timing.specs.Timing.{hold, present}
 use Rattle.admission.specs.Admission.{slots, slot_of, in_table, period_of, load, longest_wait, Ranges, passes, Part}
-use Rattle.admission.specs.Admission.Laws.{present_in, wait_upper, wait_one, passes_in, passes_out}
+use Rattle.admission.specs.Admission.Laws.{present_in, wait_upper, wait_one}
+use Rattle.admission.specs.Admission.Text.{load_is}
+use Rattle.admission.proofs.Laws.{passes_in, passes_out}
 
 module _ (t' t : List Figures) (part : Part t' t) where
   -- who is in the smaller table stands in the larger one with the same figures
@@ -23,8 +25,8 @@ module _ (t' t : List Figures) (part : Part t' t) where
     term f = when (present f && leb f.period.0 p) (f.budget.0 * (l / f.period.0))
 
     load_less : load t' l p ≤ load t l p
-    unfolding load
-    load_less = sum_le slots (λ i. term (slot_of t' i)) (λ i. term (slot_of t i)) (λ i h. one i (part i h))
+    load_less =
+        rw (load_is t' l p, load_is t l p) (sum_le slots (λ i. term (slot_of t' i)) (λ i. term (slot_of t i)) (λ i h. one i (part i h)))
       where
         one : (i : ℕ) → (slot_of t' i ≡ slot_of t i) ⊎ (in_table t' i ≡ false) → term (slot_of t' i) ≤ term (slot_of t i)
         one i (inl e) = omega (arith, ap term e)
