@@ -6,21 +6,23 @@ ghost use Rattle.std.specs.Prelude.{◌≤◌};
 use board::Board;
 use quantity::{Instant, Length};
 use resources::Set;
+use std::io;
 use timing::{Figures, Life, Lock, State};
 
-fn put(clock: u64, named: u64, number: u8, value: u64) {
-    let mut text = io::buffer();
+fn put(rt: &impl Print, clock: u64, named: u64, number: u8, value: u64) -> io::Result<()> {
+    let mut text = [0u8; 64];
     let n = lines::print(clock, named, number, value, &mut text);
-    output::flush(&text, n);
+    output::flush(rt, &text, n)?;
+    Ok(())
 }
 
 // A line asked of a board, and its answer's line.
-fn ask(board: Board, line: &[u8]) -> Board {
+fn ask(rt: &impl Print, board: Board, line: &[u8]) -> io::Result<Board> {
     let told = desk::serve(board, lines::take_apart(line));
     let next = told.board;
     let shown = desk::show(next);
-    put(shown.clock, shown.named, told.number, told.value);
-    next
+    put(rt, shown.clock, shown.named, told.number, told.value)?;
+    Ok(next)
 }
 
 // A server that uses resources 0 and 1 alone.
@@ -94,43 +96,48 @@ fn after_end(n: u32) -> Instant {
 }
 
 // A locked resource that nobody holds: 10 and 13 come before 14, the budget after it.
-fn ask_locked(left: u32, locked: u8, closed: u8, line: &[u8]) {
+fn ask_locked(rt: &impl Print, left: u32, locked: u8, closed: u8, line: &[u8]) -> io::Result<()> {
     let life = ready(left, at(10), Lock::Free);
-    ask(made(life, at(3), locked, closed), line);
+    ask(rt, made(life, at(3), locked, closed), line)?;
+    Ok(())
 }
 
-fn ask_all_locked() {
-    ask_locked(4, 1, 0, b"L 0 0");
-    ask_locked(1, 1, 0, b"L 0 0");
-    ask_locked(4, 1, 1, b"L 0 0");
-    ask_locked(4, 3, 0, b"L 0 1");
+fn ask_all_locked(rt: &impl Print) -> io::Result<()> {
+    ask_locked(rt, 4, 1, 0, b"L 0 0")?;
+    ask_locked(rt, 1, 1, 0, b"L 0 0")?;
+    ask_locked(rt, 4, 1, 1, b"L 0 0")?;
+    ask_locked(rt, 4, 3, 0, b"L 0 1")
 }
 
 // The clock's end: up to it and not past it.
-fn run_to_end() {
+fn run_to_end(rt: &impl Print) -> io::Result<()> {
     let quiet = made(Life::begin(), before_end(5), 0, 0);
-    let a = ask(quiet, b"R 6");
-    let b = ask(a, b"R 5");
-    let c = ask(b, b"R 1");
-    let d = ask(c, b"R 0");
-    ask(d, b"R 1000001");
+    let a = ask(rt, quiet, b"R 6")?;
+    let b = ask(rt, a, b"R 5")?;
+    let c = ask(rt, b, b"R 1")?;
+    let d = ask(rt, c, b"R 0")?;
+    ask(rt, d, b"R 1000001")?;
+    Ok(())
 }
 
 // A budget or a hold that would end the run earlier changes nothing of that.
-fn run_short() {
+fn run_short(rt: &impl Print) -> io::Result<()> {
     let life = ready(2, after_end(3), Lock::Free);
     let short = made(life, before_end(5), 0, 0);
-    let a = ask(short, b"R 6");
-    ask(a, b"R 5");
+    let a = ask(rt, short, b"R 6")?;
+    ask(rt, a, b"R 5")?;
+    Ok(())
 }
 
-fn run_at_hold(clock: Instant) {
+fn run_at_hold(rt: &impl Print, clock: Instant) -> io::Result<()> {
     let life = ready(2, after_end(4), Lock::On(0, Length(2)));
-    ask(made(life, clock, 1, 0), b"R 1");
+    ask(rt, made(life, clock, 1, 0), b"R 1")?;
+    Ok(())
 }
 
-fn arrive_at_end(left: u32, deadline: Instant) {
-    ask(made(idle(left, deadline), Instant::END, 0, 0), b"W 0");
+fn arrive_at_end(rt: &impl Print, left: u32, deadline: Instant) -> io::Result<()> {
+    ask(rt, made(idle(left, deadline), Instant::END, 0, 0), b"W 0")?;
+    Ok(())
 }
 
 // One for a byte that stands as it was.
@@ -152,27 +159,27 @@ fn kept(buffer: &[u8]) -> u64 {
 }
 
 // A sheet written into bytes of 170: how many of them stand as they were, nobody, the answer's number and its value.
-fn write(board: Board, buffer: &mut [u8]) {
+fn write(rt: &impl Print, board: Board, buffer: &mut [u8]) -> io::Result<()> {
     let w = sheet::write(board, buffer);
-    put(kept(buffer), 16, w.number, w.value);
+    put(rt, kept(buffer), 16, w.number, w.value)
 }
 
-fn write_all() {
+fn write_all(rt: &impl Print) -> io::Result<()> {
     let board = made(Life::begin(), Instant::BEGIN, 0, 0);
-    write(board, &mut [170u8; 0]);
-    write(board, &mut [170u8; 95]);
-    write(board, &mut [170u8; 96]);
-    write(board, &mut [170u8; 100]);
-    write(Board::blank(), &mut [170u8; 9]);
+    write(rt, board, &mut [170u8; 0])?;
+    write(rt, board, &mut [170u8; 95])?;
+    write(rt, board, &mut [170u8; 96])?;
+    write(rt, board, &mut [170u8; 100])?;
+    write(rt, Board::blank(), &mut [170u8; 9])
 }
 
-fn main() {
-    ask_all_locked();
-    run_to_end();
-    run_short();
-    run_at_hold(Instant::END);
-    run_at_hold(before_end(1));
-    arrive_at_end(1, after_end(4));
-    arrive_at_end(0, Instant::END);
-    write_all();
+fn main(rt: HostRuntime) -> io::Result<()> {
+    ask_all_locked(&rt)?;
+    run_to_end(&rt)?;
+    run_short(&rt)?;
+    run_at_hold(&rt, Instant::END)?;
+    run_at_hold(&rt, before_end(1))?;
+    arrive_at_end(&rt, 1, after_end(4))?;
+    arrive_at_end(&rt, 0, Instant::END)?;
+    write_all(&rt)
 }

@@ -1,13 +1,14 @@
 // The sheets program: each line of standard input a sheet in lower-case hex; its answer and value, and an accepted sheet written back.
 #![tactic(auto)]
 
-ghost use Rattle.std.specs.Prelude.{◌≤◌, ◌<◌, length, ◌≡◌};
+ghost use Rattle.std.specs.Prelude.{◌≤◌, length, ◌≡◌, IfOk};
 
 use board::Board;
-use libc::STDIN_FILENO;
+use std::io;
+use std::io::Read;
 
 // How many bytes of output wait; of the line, how many digits came, the last of them, and whether all is well; whether input may follow.
-#[derive(Drop)]
+#[derive(Clone, Copy)]
 struct Page {
     used: usize,
     digits: usize,
@@ -109,37 +110,49 @@ fn answer(out: &mut [u8], used: usize, bytes: &[u8], back: &mut [u8]) -> usize
 }
 
 // A line's end: its answer, or "-" where it is no sheet in hex.
-fn say(page: Page, bytes: &[u8], back: &mut [u8], out: &mut [u8]) -> usize
+fn say(
+    rt: &impl Print,
+    page: Page,
+    bytes: &[u8],
+    back: &mut [u8],
+    out: &mut [u8],
+) -> io::Result<usize>
     requires { page.used ≤ length out.old }
-    ensures { result ≤ length out.old }
+    ensures { IfOk result (λ n. n ≤ length out.old) }
 {
     // The longest line of output has 1,401 bytes: where fewer than 2,048 are free, what waits is written first.
-    let used = output::with_room(out, page.used, 2048);
+    let used = output::with_room(rt, out, page.used, 2048)?;
     if !page.good {
-        return put(out, used, b'-');
+        return Ok(put(out, used, b'-'));
     }
     if page.digits % 2 != 0 {
-        return put(out, used, b'-');
+        return Ok(put(out, used, b'-'));
     }
     if bytes.len() < page.digits / 2 {
-        return put(out, used, b'-');
+        return Ok(put(out, used, b'-'));
     }
-    answer(out, used, &bytes[..page.digits / 2], back)
+    Ok(answer(out, used, &bytes[..page.digits / 2], back))
 }
 
-fn end(page: Page, bytes: &[u8], back: &mut [u8], out: &mut [u8]) -> Page
+fn end(
+    rt: &impl Print,
+    page: Page,
+    bytes: &[u8],
+    back: &mut [u8],
+    out: &mut [u8],
+) -> io::Result<Page>
     requires { page.used ≤ length out.old }
-    ensures { result.used ≤ length out.old }
+    ensures { IfOk result (λ p. p.used ≤ length out.old) }
 {
-    let at = say(page, bytes, back, out);
+    let at = say(rt, page, bytes, back, out)?;
     let used = put(out, at, b'\n');
-    Page {
+    Ok(Page {
         used,
         digits: 0,
         high: 0,
         good: true,
         more: true,
-    }
+    })
 }
 
 // A digit's number; 16 where it is none.
@@ -200,76 +213,119 @@ fn take(page: Page, byte: u8, bytes: &mut [u8]) -> Page
     }
 }
 
-fn feed(page: Page, byte: u8, bytes: &mut [u8], back: &mut [u8], out: &mut [u8]) -> Page
+fn feed(
+    rt: &impl Print,
+    page: Page,
+    byte: u8,
+    bytes: &mut [u8],
+    back: &mut [u8],
+    out: &mut [u8],
+) -> io::Result<Page>
     requires { page.used ≤ length out.old }
-    ensures { result.used ≤ length out.old }
+    ensures { IfOk result (λ p. p.used ≤ length out.old) }
 {
     if byte == b'\n' {
-        return end(page, bytes, back, out);
+        return end(rt, page, bytes, back, out);
     }
-    take(page, byte, bytes)
+    Ok(take(page, byte, bytes))
 }
 
-fn through(page: Page, block: &[u8], bytes: &mut [u8], back: &mut [u8], out: &mut [u8]) -> Page
+fn through(
+    rt: &impl Print,
+    page: Page,
+    block: &[u8],
+    bytes: &mut [u8],
+    back: &mut [u8],
+    out: &mut [u8],
+) -> io::Result<Page>
     requires { page.used ≤ length out.old }
-    ensures { result.used ≤ length out.old }
+    ensures { IfOk result (λ p. p.used ≤ length out.old) }
 {
     let mut p = page;
     let mut i = 0;
     while i < block.len() {
-        p = feed(p, block[i], bytes, back, out);
+        p = feed(rt, p, block[i], bytes, back, out)?;
         i += 1;
     }
-    p
+    Ok(p)
 }
 
 // One block read and served, or the input's end.
-fn turn(page: Page, block: &mut [u8], bytes: &mut [u8], back: &mut [u8], out: &mut [u8]) -> Page
+fn turn(
+    rt: &impl Print,
+    input: &mut impl Read,
+    page: Page,
+    block: &mut [u8],
+    bytes: &mut [u8],
+    back: &mut [u8],
+    out: &mut [u8],
+) -> io::Result<Page>
     requires { page.used ≤ length out.old }
-    ensures { result.used ≤ length out.old }
+    ensures { IfOk result (λ p. p.used ≤ length out.old) }
 {
-    let n = io::read_full(STDIN_FILENO, block);
+    let n = input.read(block)?;
     if n == 0 {
-        return Page {
+        return Ok(Page {
             used: page.used,
             digits: page.digits,
             high: page.high,
             good: page.good,
             more: false,
-        };
+        });
     }
-    through(page, &block[..n], bytes, back, out)
+    through(rt, page, &block[..n], bytes, back, out)
 }
 
 // A proved loop has to end, and nothing says that the input does: the turns are counted down from a number that no run uses up.
-fn blocks(page: Page, block: &mut [u8], bytes: &mut [u8], back: &mut [u8], out: &mut [u8]) -> Page
+fn blocks(
+    rt: &impl Print,
+    input: &mut impl Read,
+    page: Page,
+    block: &mut [u8],
+    bytes: &mut [u8],
+    back: &mut [u8],
+    out: &mut [u8],
+) -> io::Result<Page>
     requires { page.used ≤ length out.old }
-    ensures { result.used ≤ length out.old }
+    ensures { IfOk result (λ p. p.used ≤ length out.old) }
 {
     let mut p = page;
     let mut turns = u64::MAX;
     while turns > 0 {
-        p = turn(p, block, bytes, back, out);
+        p = turn(rt, input, p, block, bytes, back, out)?;
         if !p.more {
             break;
         }
         turns -= 1;
     }
-    p
+    Ok(p)
 }
 
 // A last line without a line end counts as a line.
-fn last(page: Page, bytes: &[u8], back: &mut [u8], out: &mut [u8]) -> Page
+fn last(
+    rt: &impl Print,
+    page: Page,
+    bytes: &[u8],
+    back: &mut [u8],
+    out: &mut [u8],
+) -> io::Result<Page>
     requires { page.used ≤ length out.old }
-    ensures { result.used ≤ length out.old }
+    ensures { IfOk result (λ p. p.used ≤ length out.old) }
 {
     if page.good && page.digits == 0 {
-        return page;
+        return Ok(page);
     }
-    end(page, bytes, back, out)
+    end(rt, page, bytes, back, out)
 }
 
-fn serve(block: &mut [u8], bytes: &mut [u8], back: &mut [u8], out: &mut [u8]) {
+fn serve(
+    rt: &impl Print,
+    input: &mut impl Read,
+    block: &mut [u8],
+    bytes: &mut [u8],
+    back: &mut [u8],
+    out: &mut [u8],
+) -> io::Result<()> {
     let begin = Page {
         used: 0,
         digits: 0,
@@ -277,15 +333,17 @@ fn serve(block: &mut [u8], bytes: &mut [u8], back: &mut [u8], out: &mut [u8]) {
         good: true,
         more: true,
     };
-    let p = blocks(begin, block, bytes, back, out);
-    let q = last(p, bytes, back, out);
-    output::flush(out, q.used);
+    let p = blocks(rt, input, begin, block, bytes, back, out)?;
+    let q = last(rt, p, bytes, back, out)?;
+    output::flush(rt, out, q.used)?;
+    Ok(())
 }
 
-fn main() {
-    let mut block = io::large_buffer();
+fn main(rt: HostRuntime) -> io::Result<()> {
+    let mut input = rt.reader();
+    let mut block = [0u8; 65536];
     let mut bytes = [0u8; 8192];
     let mut back = [0u8; 1024];
-    let mut out = io::large_buffer();
-    serve(&mut block, &mut bytes, &mut back, &mut out);
+    let mut out = [0u8; 65536];
+    serve(&rt, &mut input, &mut block, &mut bytes, &mut back, &mut out)
 }
