@@ -27,7 +27,6 @@ use Rattle.board.specs.Board.{figures_at, life_at, with_life, with_sets}
 use Rattle.board.specs.Calls.{standing}
 use Rattle.guarantee.specs.Table.{Table}
 use Rattle.guarantee.specs.Board.{View}
-use Rattle.guarantee.specs.Board as abstract
 use Rattle.guarantee.specs.Step.{Locking, none, Bits}
 use Rattle.guarantee.specs.Step as steps
 use Rattle.guarantee.specs.Reached.{Reached, next}

@@ -11,7 +11,7 @@ use lib.Seq.{get_or-set_same, get_or-set_other}
 use Rattle.terms.proofs.Tests.{not_both}
 use Rattle.timing.specs.declared.Figures.{Figures}
 use Rattle.timing.specs.Timing.{present, Ranged}
-use Rattle.admission.specs.Admission.{slots, slot_of, period_of, budget_of, hold_of, in_table, load, passes}
+use Rattle.admission.specs.Admission.{slots, slot_of, period_of, budget_of, hold_of, in_table, passes}
 use Rattle.admission.proofs.Fewer.{passes_less_one}
 use Rattle.guarantee.specs.Table.{Table}
 use Rattle.guarantee.specs.Lawful.{Lawful}

@@ -26,7 +26,7 @@ use Rattle.board.specs.Machine.{Call, Open, Admit, Start, Arrive, Done, Lock, Un
 use Rattle.board.specs.Events.{told}
 use Rattle.guarantee.specs.Reached.{start}
 use Rattle.guarantee.specs.History.{history}
-use Rattle.board.proofs.Commissions.{number, open_done, open_low}
+use Rattle.board.proofs.Commissions.{open_done, open_low}
 use Rattle.promise.specs.History.{anew, History, opening, calling}
 use Rattle.promise.proofs.Lawful.{Kept}
 use Rattle.promise.proofs.Commissioning.{kept_fresh, kept_admitted}

@@ -23,8 +23,6 @@ use Rattle.board.specs.declared.Board.{Board}
 use Rattle.board.specs.Board.{figures_at, life_at}
 use Rattle.board.specs.Run.{any_due, woken_at, roused}
 use Rattle.board.specs.Events.{run_out}
-use Rattle.guarantee.specs.Board as abstract
-use Rattle.guarantee.specs.Reached as reached
 
 -- who has run out without a lock is spent; every other stays
 module _ (y : Life) (s : Bool) where

@@ -18,7 +18,7 @@ use Rattle.sheet.specs.declared.Reading.{Reading}
 use Rattle.sheet.specs.Sheet.{refused_at, tag_at, body_at, entered, answered, onward, read_first, read_of}
 use Rattle.sheet.specs.Commissioned.{Commissioned, opening, admission}
 use Rattle.sheet.proofs.Answers.{answered_refused, onward_refused, onward_next, read_good}
-use Rattle.board.proofs.Commissions.{number, open_low, open_done, admit_done}
+use Rattle.board.proofs.Commissions.{open_low, open_done, admit_done}
 use Rattle.sheet.proofs.Accepted.{made}
 use Rattle.sheet.proofs.ReadBack.{no_gap}
 

@@ -25,14 +25,14 @@ returns c =
     let b = moved a.self w.now in
     c.end_run.ensures
     ∙ elim c.if-n-pauses.branch [
-      then-n-pauses x ↦
-        let e : a.n - k ≡ 0 = omega (arith, x.if-n-pauses.true) in
-        ends_same (ap (λ (t : Instant). moved a.self t) x.now-is) x.pauses-is (x.reason-is ∙ w.invariant.1) ∙ turn_whole b k
-        ∙ ap (λ (x : ℕ). ran_from b k x) (sym e) ∙ w.invariant.2
-    | else-n-pauses+then-has_come x ↦
-        let e : a.n - k ≡ suc (a.n - (k + 1)) = omega (arith, x.if-n-pauses.false) in
-        let h = sym x.has_come.ensures ∙ x.if-has_come.true in
-        ends_same (ap (λ (t : Instant). moved a.self t) x.now-is) x.pauses-is x.reason-is
-        ∙ sym (pause_event a.self c.requires w.now _ _ x.plus-now.ensures c.first_wait-wait.ensures h k (a.n - (k + 1)))
-        ∙ ap (λ (x : ℕ). ran_from b k x) (sym e) ∙ w.invariant.2
+      | then-n-pauses x ↦
+          let e : a.n - k ≡ 0 = omega (arith, x.if-n-pauses.true) in
+          ends_same (ap (λ (t : Instant). moved a.self t) x.now-is) x.pauses-is (x.reason-is ∙ w.invariant.1) ∙ turn_whole b k
+          ∙ ap (λ (x : ℕ). ran_from b k x) (sym e) ∙ w.invariant.2
+      | else-n-pauses+then-has_come x ↦
+          let e : a.n - k ≡ suc (a.n - (k + 1)) = omega (arith, x.if-n-pauses.false) in
+          let h = sym x.has_come.ensures ∙ x.if-has_come.true in
+          ends_same (ap (λ (t : Instant). moved a.self t) x.now-is) x.pauses-is x.reason-is
+          ∙ sym (pause_event a.self c.requires w.now _ _ x.plus-now.ensures c.first_wait-wait.ensures h k (a.n - (k + 1)))
+          ∙ ap (λ (x : ℕ). ran_from b k x) (sym e) ∙ w.invariant.2
     ]

@@ -37,14 +37,14 @@ returns c =
     let b = worked_to a.self a.m l t in
     c.end_run.ensures
     ∙ elim c.if-n-ticks.branch [
-      then-n-ticks x ↦
-        let e : a.n - k ≡ 0 = omega (arith, x.if-n-ticks.true) in
-        ends_same (worked_same a.self a.m x.life-is x.now-is) x.ticks-is (x.reason-is ∙ w.invariant.1) ∙ turn_whole b k
-        ∙ ap (λ (x : ℕ). ran_from b k x) (sym e) ∙ w.invariant.3
-    | else-n-ticks+then-not-goes_on x ↦
-        let e : a.n - k ≡ suc (a.n - (k + 1)) = omega (arith, x.if-n-ticks.false) in
-        let g = sym x.goes_on.ensures ∙ x.if-not-goes_on.true in
-        ends_same (worked_same a.self a.m x.life-is x.now-is) x.ticks-is x.reason-is
-        ∙ sym (work_event a.self a.m c.requires.m_named l t w.invariant.2 _ _ _ _ _ x.plus-now.ensures x.tick-after.ensures x.settle-life.ensures c.first_wait-wait.ensures x.end_by-reason.ensures g k (a.n - (k + 1)))
-        ∙ ap (λ (x : ℕ). ran_from b k x) (sym e) ∙ w.invariant.3
+      | then-n-ticks x ↦
+          let e : a.n - k ≡ 0 = omega (arith, x.if-n-ticks.true) in
+          ends_same (worked_same a.self a.m x.life-is x.now-is) x.ticks-is (x.reason-is ∙ w.invariant.1) ∙ turn_whole b k
+          ∙ ap (λ (x : ℕ). ran_from b k x) (sym e) ∙ w.invariant.3
+      | else-n-ticks+then-not-goes_on x ↦
+          let e : a.n - k ≡ suc (a.n - (k + 1)) = omega (arith, x.if-n-ticks.false) in
+          let g = sym x.goes_on.ensures ∙ x.if-not-goes_on.true in
+          ends_same (worked_same a.self a.m x.life-is x.now-is) x.ticks-is x.reason-is
+          ∙ sym (work_event a.self a.m c.requires.m_named l t w.invariant.2 _ _ _ _ _ x.plus-now.ensures x.tick-after.ensures x.settle-life.ensures c.first_wait-wait.ensures x.end_by-reason.ensures g k (a.n - (k + 1)))
+          ∙ ap (λ (x : ℕ). ran_from b k x) (sym e) ∙ w.invariant.3
     ]
