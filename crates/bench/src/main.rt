@@ -83,7 +83,7 @@ fn through(
     Ok(p)
 }
 
-// One block read and served, or the input's end.
+// One block read and served, or the input's end. Where it cannot be read, what waits is written before the error goes on.
 fn turn(
     rt: &impl Print,
     input: &mut impl Read,
@@ -95,7 +95,13 @@ fn turn(
     requires { page.used ≤ length out.old }
     ensures { IfOk result (λ p. p.used ≤ length out.old) }
 {
-    let n = input.read(block)?;
+    let n = match input.read(block) {
+        Ok(n) => n,
+        Err(error) => {
+            output::flush(rt, out, page.used)?;
+            return Err(error);
+        }
+    };
     if n == 0 {
         let board = page.board;
         return Ok(Page {
