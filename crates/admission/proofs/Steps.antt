@@ -1,21 +1,24 @@
 -- The code's steps come to the test itself: sums, some and every are those of the definitions, and the longest wait is the same largest
 -- whether it goes by server first or by resource first.
 use Prim.Native.Nat.{ℕ, ◌≤◌, ◌<◌}
-use mathlib.Core.Path.{◌≡◌, refl, ◌∙◌}
+use mathlib.Core.Path.{◌≡◌, sym, ◌∙◌}
 use mathlib.Core.Logic.{⊎_elim}
 use mathlib.Core.Bool.{true, false, ◌&&◌}
 use mathlib.Core.List.{List}
+use lib.ListN.{length, get_or}
+use lib.Seq.{ext_get_or}
 use native.Mathlib.Omega.{arith}
 use native.Mathlib.Nat.{le_antisymm, le_trans}
 use lib.Dec.{ltb}
 use Rattle.terms.specs.Words.{when, sum, largest, every, some, list}
-use Rattle.terms.proofs.Over.{largest_upper, largest_least}
+use Rattle.terms.proofs.Over.{largest_upper, largest_least, list_length, list_at}
 use Rattle.terms.proofs.Tests.{true_or_false}
 use Rattle.quantity.specs.declared.Length.{Length}
+use Rattle.quantity.specs.Quantity.{ticks}
 use Rattle.timing.specs.declared.Figures.{Figures}
 use Rattle.admission.specs.Admission.{slots, slot_of, period_of, hold_of, load, used, longest_wait, passes}
 use Rattle.admission.specs.Admission.Text.{load_is, used_is, longest_wait_is, passes_is}
-use Rattle.admission.specs.Steps.{counted_in, uses_up_to, hold_above, longest_hold, wait_for, slot_fits, filled}
+use Rattle.admission.specs.Steps.{counted_in, uses_up_to, hold_above, longest_hold, wait_for, slot_fits}
 
 module _ (t : List Figures) where
   pub load_steps : (l p : ℕ) → load t l p ≡ sum (λ i. counted_in (slot_of t i) l p) slots
@@ -76,7 +79,9 @@ module _ (t : List Figures) where
         one_of_resource r (largest (λ j. largest (by_server j) 8) slots) (λ j h.
         le_trans (largest_upper (by_server j) 8 r k) (largest_upper (λ j. largest (by_server j) 8) slots j h))))
 
--- eight lengths that are set one by one are the list of them
-pub filled_list : (f : ℕ → Length) → filled f 8 ≡ list f 8
-unfolding filled list
-filled_list f = refl
+-- eight lengths that are each what f says are the list of them
+pub list_of : (ls : List Length) (f : ℕ → Length) → length ls ≡ 8 → ((i : ℕ) → i < 8 → get_or ls i (ticks 0) ≡ f i) → ls ≡ list f 8
+list_of ls f e h =
+    ext_get_or (ticks 0) ls (list f 8) (e ∙ sym (list_length f 8)) (λ i l.
+    let k : i < 8 = omega arith in
+    h i k ∙ sym (list_at f 8 i (ticks 0) k))

@@ -2,12 +2,13 @@
 pub mod Laws
 pub mod Judging
 pub mod Text
-use Rattle.std.specs.Prelude.{ℕ, ◌+◌, ◌*◌, ◌/◌, ◌%◌, ◌<◌, ◌≤◌, ◌≡◌, ◌⊎◌, Bool, true, false, not, ◌&&◌, ◌||◌, List, [], get_or, set, ltb, leb, eqb}
+use Rattle.std.specs.Prelude.{ℕ, ◌+◌, ◌*◌, ◌/◌, ◌%◌, ◌<◌, ◌≤◌, ◌≡◌, ◌⊎◌, Bool, true, false, not, ◌&&◌, ◌||◌, List, [], get_or, set, ltb, leb, eqb, Result, Ok, Err}
 use Rattle.terms.specs.Words.{pick, when, sum, largest, every, some, list}
 use Rattle.quantity.specs.Quantity.{ticks, length_of, longest_period}
 use Rattle.timing.specs.declared.Figures.{Figures}
 use Rattle.timing.specs.Timing.{present, hold}
-use Rattle.admission.specs.declared.Judged.{Judged}
+use Rattle.refusals.specs.declared.Refusal.{Refusal}
+use Rattle.refusals.specs.declared.Refusal.TheVariants.{PeriodOutOfRange, BudgetOutOfRange, HoldAboveBudget, TestNotMet}
 
 -- up to 16 servers; the table is their figures by slot, and a slot is in the table exactly if its period is not 0
 abbrev pub slots : ℕ
@@ -88,13 +89,10 @@ placed t i f = pick (ltb i slots) (set t i f) t
 abbrev pub nobody : Figures
 nobody = record { period = ticks 0; budget = ticks 0; holds = list (λ r. ticks 0) 8 }
 
-abbrev pub refused : ℕ → Judged
-refused n = record { number = n; figures = nobody }
-
--- the judgement of a newcomer for slot i, in document 01's order: 4, 5, 6, 7, or 0 with its figures
-pub judged : List Figures → ℕ → ℕ → ℕ → ℕ → List ℕ → Judged
+-- the judgement of a newcomer for slot i, in document 01's order: 4, 5, 6, 7, or admitted with its figures
+pub judged : List Figures → ℕ → ℕ → ℕ → ℕ → List ℕ → Result Figures Refusal
 judged t i l p q hs =
-    pick (not (period_fits l p)) (refused 4)
-    (pick (not (budget_fits p q)) (refused 5)
-    (pick (not (holds_fit q hs)) (refused 6)
-    (pick (not (passes (placed t i (figures_of p q hs)) l)) (refused 7) (record { number = 0; figures = figures_of p q hs }))))
+    pick (not (period_fits l p)) (Err PeriodOutOfRange)
+    (pick (not (budget_fits p q)) (Err BudgetOutOfRange)
+    (pick (not (holds_fit q hs)) (Err HoldAboveBudget)
+    (pick (not (passes (placed t i (figures_of p q hs)) l)) (Err TestNotMet) (Ok (figures_of p q hs)))))

@@ -1,5 +1,5 @@
 -- The steps in which the code works the test out; proofs/ show that they come to the test itself.
-use Rattle.std.specs.Prelude.{ℕ, zero, suc, ◌*◌, ◌/◌, Bool, not, ◌&&◌, ◌||◌, List, ltb, leb, set, replicate}
+use Rattle.std.specs.Prelude.{ℕ, ◌*◌, ◌/◌, Bool, not, ◌&&◌, ◌||◌, List, ltb, leb}
 use Rattle.terms.specs.Words.{pick, when, largest}
 use Rattle.quantity.specs.declared.Length.{Length}
 use Rattle.quantity.specs.Quantity.{ticks}
@@ -7,9 +7,9 @@ use Rattle.timing.specs.declared.Figures.{Figures}
 use Rattle.timing.specs.Timing.{present, hold}
 use Rattle.admission.specs.Admission.{slots, slot_of, used, fits_at}
 
--- above every frame
+-- the largest number of 64 bits, where sums stay: above every frame
 abbrev pub enough : ℕ
-enough = 4294967296
+enough = 18446744073709551615
 
 -- one server's part of the load of the periods up to p
 unfoldable pub counted_in : Figures → ℕ → ℕ → ℕ
@@ -34,8 +34,3 @@ wait_for t p r = pick (used t p r) (longest_hold t p r) (ticks 0)
 -- the test at one slot
 unfoldable pub slot_fits : List Figures → ℕ → Figures → Bool
 slot_fits t l f = not (present f) || fits_at t l f.period.0
-
--- eight lengths, of which the first n are set
-unfoldable pub filled : (ℕ → Length) → ℕ → List Length
-filled f zero = replicate 8 (ticks 0)
-filled f (suc n) = set (filled f n) n (f n)

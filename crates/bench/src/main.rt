@@ -1,168 +1,79 @@
 // The bench program: lines of calls from standard input, a line of answer for each.
 #![tactic(auto)]
 
-ghost use Rattle.std.specs.Prelude.{◌≤◌, length, ◌≡◌, IfOk};
-
 use board::Board;
-use lines::Line;
+use input::Program;
+use lines::{Line, Step};
+use output::Output;
 use std::io;
-use std::io::Read;
+use std::io::{Stdout, Write};
 
-// The board, how many bytes of output wait, how many bytes of a line are held, and whether input may follow.
-#[derive(Clone, Copy)]
-struct Page {
+// The board, the bytes held of a line that crosses a block's end, counted as `lines::next` takes them, and the answers that wait.
+#[derive(Drop)]
+struct Bench {
     board: Board,
-    used: usize,
+    held: [u8; 256],
     count: usize,
-    more: bool,
+    out: Output<Stdout, 65536>,
 }
 
-// One line served; its answer waits in the buffer.
-fn answer(rt: &impl Print, page: Page, line: Line, out: &mut [u8], count: usize) -> io::Result<Page>
-    requires { page.used ≤ length out.old }
-    ensures within { IfOk result (λ p. p.used ≤ length out.old) }
-    ensures holds { IfOk result (λ p. p.count ≡ count) }
-{
-    // The longest answer's line has 49 bytes: where fewer than 64 are free, what waits is written first.
-    let used = output::with_room(rt, out, page.used, 64)?;
-    let board = page.board;
-    let told = desk::serve(board, line);
-    let next = told.board;
-    let shown = desk::show(next);
-    let n = lines::print(
-        shown.clock,
-        shown.named,
-        told.number,
-        told.value,
-        &mut out[used..],
-    );
-    Ok(Page {
-        board: next,
-        used: used + n,
-        count,
-        more: true,
-    })
-}
-
-// One step through a block's lines.
-fn step(rt: &impl Print, page: Page, s: lines::Step, out: &mut [u8]) -> io::Result<Page>
-    requires { page.used ≤ length out.old }
-    ensures { IfOk result (λ p. p.used ≤ length out.old) }
-{
-    if s.got {
-        let line = s.line;
-        return answer(rt, page, line, out, s.count);
-    }
-    let board = page.board;
-    Ok(Page {
-        board,
-        used: page.used,
-        count: s.count,
-        more: true,
-    })
-}
-
-// All lines that end in a block; what is left of it is held.
-fn through(
-    rt: &impl Print,
-    page: Page,
-    block: &[u8],
-    held: &mut [u8],
-    out: &mut [u8],
-) -> io::Result<Page>
-    requires { page.used ≤ length out.old }
-    ensures { IfOk result (λ p. p.used ≤ length out.old) }
-{
-    let mut p = page;
-    let mut at = 0;
-    while at < block.len() {
-        let s = lines::next(block, at, held, p.count);
-        at = s.next;
-        p = step(rt, p, s, out)?;
-    }
-    Ok(p)
-}
-
-// One block read and served, or the input's end. Where it cannot be read, what waits is written before the error goes on.
-fn turn(
-    rt: &impl Print,
-    input: &mut impl Read,
-    page: Page,
-    block: &mut [u8],
-    held: &mut [u8],
-    out: &mut [u8],
-) -> io::Result<Page>
-    requires { page.used ≤ length out.old }
-    ensures { IfOk result (λ p. p.used ≤ length out.old) }
-{
-    let n = match input.read(block) {
-        Ok(n) => n,
-        Err(error) => {
-            output::flush(rt, out, page.used)?;
-            return Err(error);
+impl Bench {
+    fn new(to: Stdout) -> Self {
+        Bench {
+            board: Board::blank(),
+            held: [0; 256],
+            count: 0,
+            out: Output::new(to),
         }
-    };
-    if n == 0 {
-        let board = page.board;
-        return Ok(Page {
-            board,
-            used: page.used,
-            count: page.count,
-            more: false,
-        });
     }
-    through(rt, page, &block[..n], held, out)
-}
 
-// A proved loop has to end, and nothing says that the input does: the turns are counted down from a number that no run uses up.
-fn blocks(
-    rt: &impl Print,
-    input: &mut impl Read,
-    page: Page,
-    block: &mut [u8],
-    held: &mut [u8],
-    out: &mut [u8],
-) -> io::Result<Page>
-    requires { page.used ≤ length out.old }
-    ensures { IfOk result (λ p. p.used ≤ length out.old) }
-{
-    let mut p = page;
-    let mut turns = u64::MAX;
-    while turns > 0 {
-        p = turn(rt, input, p, block, held, out)?;
-        if !p.more {
-            break;
+    // One line served. The longest answer's line has 49 bytes.
+    fn answer(&mut self, line: Line) -> io::Result<()> {
+        let told = desk::serve(self.board, line);
+        self.board = told.board;
+        let shown = desk::show(self.board);
+        let mut text = [0; 64];
+        let n = lines::print(shown.clock, shown.named, told.number, told.value, &mut text);
+        self.out.write_all(&text[..n])
+    }
+
+    // One step through the input: the line that ended there, if one did, is served.
+    fn step(&mut self, step: Step) -> io::Result<()> {
+        self.count = step.count;
+        match step.line {
+            Some(line) => self.answer(line),
+            None => Ok(()),
         }
-        turns -= 1;
     }
-    Ok(p)
+
+    // The input's end: what is held is a last line without a line end.
+    fn finish(&mut self) -> io::Result<()> {
+        let step = lines::last(&self.held, self.count);
+        self.step(step)?;
+        self.out.flush()
+    }
 }
 
-// The whole input: its blocks, and a last line without a line end.
-fn serve(
-    rt: &impl Print,
-    input: &mut impl Read,
-    block: &mut [u8],
-    held: &mut [u8],
-    out: &mut [u8],
-) -> io::Result<()> {
-    let begin = Page {
-        board: Board::blank(),
-        used: 0,
-        count: 0,
-        more: true,
-    };
-    let p = blocks(rt, input, begin, block, held, out)?;
-    let s = lines::last(held, p.count);
-    let q = step(rt, p, s, out)?;
-    output::flush(rt, out, q.used)?;
-    Ok(())
+impl Program for Bench {
+    // All lines that end in a block are served; what is left of it is held.
+    fn take(&mut self, block: &[u8]) -> io::Result<()> {
+        let mut at = 0;
+        // No `for`: `lines::next` says where to go on.
+        while at < block.len() {
+            let step = lines::next(block, at, &mut self.held, self.count);
+            at = step.next;
+            self.step(step)?;
+        }
+        Ok(())
+    }
+
+    fn flush(&mut self) -> io::Result<()> {
+        self.out.flush()
+    }
 }
 
 fn main(rt: HostRuntime) -> io::Result<()> {
-    let mut input = rt.reader();
-    let mut block = [0u8; 65536];
-    let mut held = [0u8; 256];
-    let mut out = [0u8; 65536];
-    serve(&rt, &mut input, &mut block, &mut held, &mut out)
+    let mut bench = Bench::new(rt.stdout());
+    input::serve(&mut rt.reader(), &mut bench)?;
+    bench.finish()
 }

@@ -7,13 +7,12 @@ use native.Mathlib.Omega.{arith}
 use native.Mathlib.Decide.{ℕ_discrete, dec_le}
 use lib.Dec.{ltb, eqb}
 use borrow.Author.Tests.{ltb-true, ltb-false, lt-ltb, eq-eqb, eqb-true, not-true, not-false}
-use Rattle.terms.proofs.Over.{last_or_below, every_in, every_out}
+use Rattle.terms.proofs.Over.{below_suc, every_in, every_out}
 use Rattle.terms.proofs.Tests.{not_both, true_or_false, and_in, and_left, and_right, or_left, or_right, or_out}
-use Rattle.quantity.specs.Quantity.{before}
 use Rattle.admission.specs.Admission.{slots}
 use Rattle.board.specs.declared.Board.{Board}
 use Rattle.board.specs.declared.Best.{Best}
-use Rattle.board.specs.declared.Choice.TheVariants.{Nobody, Slot}
+use Rattle.std.specs.Prelude.{Option, Some, None}
 use Rattle.board.specs.Board.{life_at, stands, precedes, is_first, first, seek}
 use Rattle.board.specs.Steps.{keeps, better_of, best_of, chosen}
 use Rattle.board.proofs.Search.{no_slot, search_none, search_only, search_out}
@@ -26,78 +25,73 @@ module _ (b : Board) (s : Bool) where
   unfoldable pub Leads : ℕ → ℕ → Type 0
   Leads i j = (due_at i < due_at j) ⊎ ((due_at i ≡ due_at j) × (i ≤ j))
 
-  -- p is the first of the slots below n
-  record Best_of (n : ℕ) (p : Best) : Type 0 where
-    none : p.any ≡ false → (j : ℕ) → j < n → stands b s j ≡ false
-    below : p.any ≡ true → p.slot < n
-    one : p.any ≡ true → stands b s p.slot ≡ true
-    due : p.any ≡ true → p.deadline.0 ≡ due_at p.slot
-    leads : p.any ≡ true → (j : ℕ) → j < n → stands b s j ≡ true → Leads p.slot j
+  -- p is the first of the slots below n, or none of them stands
+  record Best_at (n : ℕ) (p : Best) : Type 0 where
+    below : p.slot < n
+    one : stands b s p.slot ≡ true
+    due : p.deadline.0 ≡ due_at p.slot
+    leads : (j : ℕ) → j < n → stands b s j ≡ true → Leads p.slot j
+
+  abbrev Best_of : ℕ → Option Best → Type 0
+  Best_of n None = (j : ℕ) → j < n → stands b s j ≡ false
+  Best_of n (Some p) = Best_at n p
 
   -- slot n does not count
-  skips : (n : ℕ) (p : Best) → stands b s n ≡ false → Best_of n p → Best_of (suc n) p
-  skips n p out h = record {
-    none = λ e j l. ⊎_elim (λ (q : j ≡ n). rw q out) (λ (k : j < n). h.none e j k) (last_or_below l);
-    below = λ e. omega (arith, h.below e);
+  skips : (n : ℕ) (p : Option Best) → stands b s n ≡ false → Best_of n p → Best_of (suc n) p
+  skips n None out h = below_suc (λ j. stands b s j ≡ false) h out
+  skips n (Some p) out h = record {
+    below = omega (arith, h.below);
     one = h.one;
     due = h.due;
-    leads = λ e j l yes. ⊎_elim (λ (q : j ≡ n). absurd (not_both (rw q at yes) out)) (λ (k : j < n). h.leads e j k yes) (last_or_below l);
+    leads = below_suc (λ j. stands b s j ≡ true → Leads p.slot j) h.leads (λ yes. absurd (not_both yes out));
   }
 
   -- the best so far stays before slot n
-  stays : (n : ℕ) (p : Best) → stands b s n ≡ true → keeps p (life_at b n).deadline ≡ true → Best_of n p → Best_of (suc n) p
+  stays : (n : ℕ) (p : Option Best) → keeps p (life_at b n).deadline ≡ true → Best_of n p → Best_of (suc n) p
   unfolding keeps Leads
-  stays n p here k h =
-      let any = and_left p.any (not (before (life_at b n).deadline p.deadline)) k in
-      let late = ltb-false (due_at n) p.deadline.0 (not-true _ (and_right p.any (not (before (life_at b n).deadline p.deadline)) k)) in
-      record {
-        none = λ e. absurd (not_both any e);
-        below = λ e. omega (arith, h.below e);
-        one = h.one;
-        due = h.due;
-        leads = λ e j l yes. ⊎_elim (λ (q : j ≡ n). rw q (last (dec_le (due_at n) (due_at p.slot)) (h.below e) (h.due e) late))
-            (λ (m : j < n). h.leads e j m yes) (last_or_below l);
-      }
-    where
-      last : Dec (due_at n ≤ due_at p.slot) → p.slot < n → p.deadline.0 ≡ due_at p.slot → p.deadline.0 ≤ due_at n
-          → (due_at p.slot < due_at n) ⊎ ((due_at p.slot ≡ due_at n) × (p.slot ≤ n))
-      last (yes l) m e k = inr (omega arith, omega arith)
-      last (no z) m e k = inl (omega arith)
-
-  -- slot n is before the best so far, or there was none
-  takes : (n : ℕ) (p : Best) → stands b s n ≡ true → keeps p (life_at b n).deadline ≡ false → Best_of n p
-      → Best_of (suc n) (record { any = true; slot = n; deadline = (life_at b n).deadline })
-  unfolding keeps Leads
-  takes n p here k h = record {
-    none = λ e. absurd (not_both refl e);
-    below = λ e. omega arith;
-    one = λ e. here;
-    due = λ e. refl;
-    leads = λ e j l yes. ⊎_elim (λ (q : j ≡ n). inr (ap due_at (sym q), omega arith)) (λ (m : j < n). before_all p.any refl j m yes) (last_or_below l);
+  stays n None k h = absurd (not_both k refl)
+  stays n (Some p) k h = record {
+    below = omega (arith, h.below);
+    one = h.one;
+    due = h.due;
+    leads = below_suc (λ j. stands b s j ≡ true → Leads p.slot j) h.leads (λ yes. last (dec_le (due_at n) (due_at p.slot)));
   }
     where
-      before_all : (a : Bool) → p.any ≡ a → (j : ℕ) → j < n → stands b s j ≡ true → (due_at n < due_at j) ⊎ ((due_at n ≡ due_at j) × (n ≤ j))
-      before_all false e j m t = absurd (not_both t (h.none e j m))
-      before_all true e j m t =
-          let early = ltb-true (due_at n) p.deadline.0 (not-false _ (simp e at k)) in
-          ⊎_elim (λ (c : due_at p.slot < due_at j). inl (omega (arith, h.due e)))
-          (λ (c : (due_at p.slot ≡ due_at j) × (p.slot ≤ j)). inl (omega (arith, h.due e, c.0))) (h.leads e j m t)
+      late : p.deadline.0 ≤ due_at n
+      late = ltb-false (due_at n) p.deadline.0 (not-true _ k)
 
-  step : (n : ℕ) (p : Best) (x y : Bool) → stands b s n ≡ x → keeps p (life_at b n).deadline ≡ y → Best_of n p → Best_of (suc n) (better_of b s p n)
+      last : Dec (due_at n ≤ due_at p.slot) → (due_at p.slot < due_at n) ⊎ ((due_at p.slot ≡ due_at n) × (p.slot ≤ n))
+      last (yes l) = inr (omega (arith, h.due, late), omega (arith, h.below))
+      last (no z) = inl (omega arith)
+
+  -- slot n is before the best so far, or there was none
+  takes : (n : ℕ) (p : Option Best) → stands b s n ≡ true → keeps p (life_at b n).deadline ≡ false → Best_of n p
+      → Best_at (suc n) (record { slot = n; deadline = (life_at b n).deadline })
+  unfolding keeps Leads
+  takes n p here k h = record {
+    below = omega arith;
+    one = here;
+    due = refl;
+    leads = below_suc (λ j. stands b s j ≡ true → Leads n j) (before_all p k h) (λ yes. inr (refl, omega arith));
+  }
+    where
+      before_all : (p : Option Best) → keeps p (life_at b n).deadline ≡ false → Best_of n p → (j : ℕ) → j < n → stands b s j ≡ true → Leads n j
+      before_all None k h j m t = absurd (not_both t (h j m))
+      before_all (Some p) k h j m t =
+          let early = ltb-true (due_at n) p.deadline.0 (not-false _ k) in
+          ⊎_elim (λ (c : due_at p.slot < due_at j). inl (omega (arith, h.due, early)))
+          (λ (c : (due_at p.slot ≡ due_at j) × (p.slot ≤ j)). inl (omega (arith, h.due, early, c.0))) (h.leads j m t)
+
+  step : (n : ℕ) (p : Option Best) (x y : Bool) → stands b s n ≡ x → keeps p (life_at b n).deadline ≡ y → Best_of n p
+      → Best_of (suc n) (better_of b s p n)
   unfolding better_of
   step n p false y e k h = rw e (skips n p e h)
-  step n p true true e k h = rw (e, k) (stays n p e k h)
+  step n p true true e k h = rw (e, k) (stays n p k h)
   step n p true false e k h = rw (e, k) (takes n p e k h)
 
   best_is : (n : ℕ) → Best_of n (best_of b s n)
   unfolding best_of
-  best_is zero = record {
-    none = λ e j l. absurd (omega arith);
-    below = λ e. absurd (not_both e refl);
-    one = λ e. absurd (not_both e refl);
-    due = λ e. absurd (not_both e refl);
-    leads = λ e. absurd (not_both e refl);
-  }
+  best_is zero = λ j l. absurd (omega arith)
   best_is (suc n) = step n (best_of b s n) _ _ refl refl (best_is n)
 
   -- being the first, as a test and as a fact
@@ -149,30 +143,24 @@ module _ (b : Board) (s : Bool) where
   -- the code's choice is the definition's
   pub first_is : first b s ≡ chosen (best_of b s slots)
   unfolding first
-  first_is = go (best_of b s slots).any refl
+  first_is = go (best_of b s slots) (best_is slots)
     where
-      p : Best
-      p = best_of b s slots
-
-      h : Best_of slots p
-      h = best_is slots
-
-      go : (a : Bool) → p.any ≡ a → seek (is_first b s) slots ≡ chosen p
-      go false e =
-          rw e (search_none (is_first b s) slots (λ j l.
-          ⊎_elim (λ f. absurd (not_both (first_stands j f) (h.none e j l))) (λ f. f) (true_or_false (is_first b s j))))
-      go true e =
-          let f = first_in p.slot (h.one e) (h.leads e) in
-          rw e (search_only (is_first b s) slots p.slot (h.below e) f (λ j l g. only p.slot j (h.below e) l f g))
+      go : (p : Option Best) → Best_of slots p → seek (is_first b s) slots ≡ chosen p
+      go None h =
+          search_none (is_first b s) slots (λ j l.
+          ⊎_elim (λ f. absurd (not_both (first_stands j f) (h j l))) (λ f. f) (true_or_false (is_first b s j)))
+      go (Some p) h =
+          let f = first_in p.slot h.one h.leads in
+          search_only (is_first b s) slots p.slot h.below f (λ j l g. only p.slot j h.below l f g)
 
   -- with nobody first, nobody stands
-  pub first_none : first b s ≡ Nobody → (j : ℕ) → j < slots → stands b s j ≡ false
-  first_none e j l = go (best_of b s slots).any refl
+  pub first_none : first b s ≡ None → (j : ℕ) → j < slots → stands b s j ≡ false
+  first_none e = go (best_of b s slots) (best_is slots) (sym first_is ∙ e)
     where
-      go : (a : Bool) → (best_of b s slots).any ≡ a → stands b s j ≡ false
-      go false q = (best_is slots).none q j l
-      go true q = absurd (no_slot (sym e ∙ simp q at first_is))
+      go : (p : Option Best) → Best_of slots p → chosen p ≡ None → (j : ℕ) → j < slots → stands b s j ≡ false
+      go None h q = h
+      go (Some p) h q = absurd (no_slot (sym q))
 
-  pub first_below : (i : ℕ) → first b s ≡ Slot i → i < slots
+  pub first_below : (i : ℕ) → first b s ≡ Some i → i < slots
   unfolding first
   first_below i e = (search_out (is_first b s) slots i e).0

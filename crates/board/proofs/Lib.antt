@@ -3,6 +3,7 @@ pub mod First
 pub mod Lowest
 pub mod Ticks
 pub mod Determined
+pub mod Checked
 pub mod Walk
 pub mod Refusal
 pub mod Running
@@ -14,3 +15,4 @@ pub mod Ones
 pub mod Overheld
 pub mod Commissions
 pub mod Loop
+pub mod Made

@@ -5,6 +5,7 @@ use mathlib.Core.Logic.{⊎_elim}
 use mathlib.Core.Bool.{Bool, true, false, not, ◌||◌}
 use mathlib.Core.List.{List}
 use native.Mathlib.Omega.{arith}
+use native.Mathlib.Numerals.{add-one}
 use native.Mathlib.Decide.{ℕ_discrete, dec_le}
 use lib.ListN.{length, get_or, set}
 use lib.Seq.{get_or-set_same, get_or-set_other, set-set}
@@ -24,12 +25,10 @@ use Rattle.timing.specs.Timing.{begun, is_ready, replenished, settled, due_in, d
 use Rattle.timing.specs.Timing.Laws.{replenished_state, ran_ready, settled_left, settled_holds, settled_spent, settled_renewed}
 use Rattle.admission.specs.Admission.{slots}
 use Rattle.board.specs.declared.Board.{Board}
-use Rattle.board.specs.declared.Choice.TheVariants.{Nobody, Slot}
+use Rattle.std.specs.Prelude.{Option, Some, None}
 use Rattle.board.specs.declared.Reason.{Reason}
 use Rattle.board.specs.declared.Reason.TheVariants.{Whole, Changed}
 use Rattle.board.specs.declared.Ticked.{Ticked}
-use Rattle.board.specs.declared.run.Wait.{Wait}
-use Rattle.board.specs.declared.run.Wait.TheVariants.{Never, Until}
 use Rattle.board.specs.Board.{figures_at, life_at, next, named}
 use Rattle.board.specs.Run.{any_due, roused, worked, paused, reached_in, reached, ticked_to, ticked_by, ticked, goes_on, ran_from}
 use Rattle.board.specs.Steps.{wait_in, earlier, has_come, wait_of, ended_by, ran_to}
@@ -46,11 +45,11 @@ come_in (Ready started k) l t = refl
 come_in Stopped l t = refl
 
 -- the earlier of two has come exactly if one of them has
-come_earlier : (v w : Wait) (t : Instant) → has_come (earlier v w) t ≡ (has_come v t || has_come w t)
-come_earlier Never w t = refl
-come_earlier (Until a) Never t =
+come_earlier : (v w : Option Instant) (t : Instant) → has_come (earlier v w) t ≡ (has_come v t || has_come w t)
+come_earlier None w t = refl
+come_earlier (Some a) None t =
     same_test (not (before t a)) (not (before t a) || false) (λ h. or_left _ _ h) (λ h. ⊎_elim (λ u. u) (λ u. absurd (not_both u refl)) (or_out _ false h))
-come_earlier (Until a) (Until b) t = go (before b a) refl
+come_earlier (Some a) (Some b) t = go (before b a) refl
   where
     -- what the earlier of two instants has not passed the later has not
     past : (x y : Instant) → x.0 ≤ y.0 → not (before t y) ≡ true → not (before t x) ≡ true
@@ -63,6 +62,15 @@ come_earlier (Until a) (Until b) t = go (before b a) refl
     go false q =
         same_test (not (before t a)) (not (before t a) || not (before t b)) (λ h. or_left _ _ h)
         (λ h. ⊎_elim (λ u. u) (λ u. past a b (ltb-false b.0 a.0 q) u) (or_out _ _ h))
+
+-- what is waited for, from n to n + 1
+pub wait_begin : (lives : List Life) → wait_of lives 0 ≡ None
+unfolding wait_of
+wait_begin lives = refl
+
+pub wait_next : (lives : List Life) (n : ℕ) → wait_of lives (n + 1) ≡ earlier (wait_of lives n) (wait_in (get_or lives n begun).state (get_or lives n begun))
+unfolding wait_of
+wait_next lives n = rw add-one
 
 -- somebody is due exactly if the first that anybody waits for has come
 wait_due : (lives : List Life) (t : Instant) (n : ℕ) → some (λ i. due (get_or lives i begun) t) n ≡ has_come (wait_of lives n) t
@@ -101,14 +109,14 @@ pub ends_same : {b c : Board} {j k : ℕ} {r s : Reason} → b ≡ c → j ≡ k
 ends_same {b} {c} {j} {k} {r} {s} p q z = ap (λ (x : Board). ran_to x j r) p ∙ ap (λ (x : ℕ). ran_to c x r) q ∙ ap (λ (x : Reason). ran_to c k x) z
 
 -- with nobody named
-module _ (b : Board) (e : named b ≡ Nobody) (t u : Instant) (w : Wait) (move : u ≡ later t (ticks 1)) (wait : w ≡ wait_of b.lives slots) where
+module _ (b : Board) (e : named b ≡ None) (t u : Instant) (w : Option Instant) (move : u ≡ later t (ticks 1)) (wait : w ≡ wait_of b.lives slots) where
   pauses_to : ticked (moved b t) ≡ ticked_to (moved b u) Whole
   unfolding ticked ticked_by paused
   pauses_to = ap (ticked_by (moved b t)) (moved_same b t ∙ e) ∙ ap (λ (x : Instant). ticked_to (moved b x) Whole) (sym move)
 
   due_is : any_due (moved b u) ≡ has_come w u
   unfolding any_due
-  due_is = wait_due b.lives u slots ∙ ap (λ (x : Wait). has_come x u) (sym wait)
+  due_is = wait_due b.lives u slots ∙ ap (λ (x : Option Instant). has_come x u) (sym wait)
 
   pub pause_on : has_come w u ≡ false → (k n : ℕ) → ran_from (moved b t) k (suc n) ≡ ran_from (moved b u) (k + 1) n
   pause_on h = turn_on (moved b t) (moved b u) Whole pauses_to (ap (λ (x : Bool). goes_on (pick x Changed Whole)) (due_is ∙ h))
@@ -151,7 +159,7 @@ pub worked_same : (b : Board) (m : ℕ) {l k : Life} {t u : Instant} → l ≡ k
 worked_same b m {l} {k} {t} {u} p q = ap (λ (x : Life). worked_to b m x t) p ∙ ap (λ (x : Instant). worked_to b m k x) q
 
 -- with m named, where l is its life and t the instant that the run has come to
-module _ (b : Board) (m : ℕ) (e : named b ≡ Slot m) where
+module _ (b : Board) (m : ℕ) (e : named b ≡ Some m) where
   inside : m < length b.lives
   inside = slot_inside b m (named_ready b m e)
 
@@ -172,7 +180,7 @@ module _ (b : Board) (m : ℕ) (e : named b ≡ Slot m) where
           go (yes p) =
               rw p (ap (λ (x : Life). due x t) (get_or-set_same b.lives m l begun inside) ∙ z ∙ sym (ready_rests (life_at b m) t (named_ready b m e)))
 
-  module _ (l : Life) (t : Instant) (stays : named (worked_to b m l t) ≡ Slot m) where
+  module _ (l : Life) (t : Instant) (stays : named (worked_to b m l t) ≡ Some m) where
     life_is : life_at (worked_to b m l t) m ≡ l
     life_is = get_or-set_same b.lives m l begun inside
 
@@ -209,7 +217,7 @@ module _ (b : Board) (m : ℕ) (e : named b ≡ Slot m) where
     ends_by = ap (λ (x : Bool). pick x Changed why) (due_others after instant (ran_rests (figures_at b m) l instant ready))
 
     on : goes_on (ended_by (ran l) (figures_at b m) (wait_of b.lives slots) instant) ≡ true
-        → (named (worked_to b m after instant) ≡ Slot m) × ((k n : ℕ) → ran_from (worked_to b m l t) k (suc n) ≡ ran_from (worked_to b m after instant) (k + 1) n)
+        → (named (worked_to b m after instant) ≡ Some m) × ((k n : ℕ) → ran_from (worked_to b m l t) k (suc n) ≡ ran_from (worked_to b m after instant) (k + 1) n)
     on g =
         let c = worked_to b m after instant in
         let h = ap goes_on ends_by ∙ g in
@@ -225,19 +233,19 @@ module _ (b : Board) (m : ℕ) (e : named b ≡ Slot m) where
         ∙ ap (λ (r : Reason). ran_to (worked_to b m after instant) (k + 1) r) ends_by
 
     -- what the code has after a tick: the instant, the life before the spent rule and after it, and the reason
-    module _ (u : Instant) (a c : Life) (w : Wait) (r : Reason) (move : u ≡ instant) (tick : a ≡ ran l) (settle : c ≡ settled (figures_at b m) a u)
-        (wait : w ≡ wait_of b.lives slots) (end : r ≡ ended_by a (figures_at b m) w u) where
+    module _ (u : Instant) (f : Figures) (a c : Life) (w : Option Instant) (r : Reason) (move : u ≡ instant) (figures : f ≡ figures_at b m) (tick : a ≡ ran l)
+        (settle : c ≡ settled f a u) (wait : w ≡ wait_of b.lives slots) (end : r ≡ ended_by a f w u) where
       board_is : worked_to b m c u ≡ worked_to b m after instant
       board_is =
-          ap (λ (x : Life). worked_to b m x u) (settle ∙ ap (λ (x : Life). settled (figures_at b m) x u) tick)
+          ap (λ (x : Life). worked_to b m x u) (settle ∙ ap (λ (x : Figures). settled x a u) figures ∙ ap (λ (x : Life). settled (figures_at b m) x u) tick)
           ∙ ap (λ (x : Instant). worked_to b m (settled (figures_at b m) (ran l) x) x) move
 
       end_is : r ≡ ended_by (ran l) (figures_at b m) (wait_of b.lives slots) instant
       end_is =
-          end ∙ ap (λ (x : Life). ended_by x (figures_at b m) w u) tick ∙ ap (λ (x : Wait). ended_by (ran l) (figures_at b m) x u) wait
+          end ∙ ap (λ (x : Figures). ended_by a x w u) figures ∙ ap (λ (x : Life). ended_by x (figures_at b m) w u) tick ∙ ap (λ (x : Option Instant). ended_by (ran l) (figures_at b m) x u) wait
           ∙ ap (λ (x : Instant). ended_by (ran l) (figures_at b m) (wait_of b.lives slots) x) move
 
-      pub name_on : goes_on r ≡ true → named (worked_to b m c u) ≡ Slot m
+      pub name_on : goes_on r ≡ true → named (worked_to b m c u) ≡ Some m
       name_on g = ap named board_is ∙ (on (ap goes_on (sym end_is) ∙ g)).0
 
       pub work_on : goes_on r ≡ true → (k n : ℕ) → ran_from (worked_to b m l t) k (suc n) ≡ ran_from (worked_to b m c u) (k + 1) n

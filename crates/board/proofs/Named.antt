@@ -11,9 +11,7 @@ use Rattle.timing.specs.declared.State.TheVariants.{Idle, Ready, Suspended, Spen
 use Rattle.timing.specs.Timing.{is_ready, is_started}
 use Rattle.admission.specs.Admission.{slots}
 use Rattle.board.specs.declared.Board.{Board}
-use Rattle.board.specs.declared.Ceiling.TheVariants.{Absent}
-use Rattle.board.specs.declared.Choice.{Choice}
-use Rattle.board.specs.declared.Choice.TheVariants.{Nobody, Slot}
+use Rattle.std.specs.Prelude.{Option, Some, None}
 use Rattle.board.specs.Board.{figures_at, life_at, stands, is_first, first, lowest, ceiling_of, ceiling, clears, may_go, named_by, named}
 use Rattle.board.proofs.Search.{no_slot, same_slot, search_none, search_only, search_out}
 use Rattle.board.proofs.First.{Leads, first_in, first_stands, first_leads, first_none, only}
@@ -33,19 +31,19 @@ pub record First_of (b : Board) (s : Bool) (i : ℕ) : Type 0 where
   pub leads : (j : ℕ) → j < slots → stands b s j ≡ true → Leads b s i j
 
 module _ (b : Board) (s : Bool) where
-  pub first_found : (i : ℕ) → first b s ≡ Slot i → First_of b s i
+  pub first_found : (i : ℕ) → first b s ≡ Some i → First_of b s i
   unfolding first
   first_found i e =
       let (l, f) = search_out (is_first b s) slots i e in
       record { below = l; one = first_stands b s i f; leads = first_leads b s i f }
 
-  pub found_first : (i : ℕ) → First_of b s i → first b s ≡ Slot i
+  pub found_first : (i : ℕ) → First_of b s i → first b s ≡ Some i
   unfolding first
   found_first i h =
       let f = first_in b s i h.one h.leads in
       search_only (is_first b s) slots i h.below f (λ j l g. only b s i j h.below l f g)
 
-  pub none_first : ((j : ℕ) → j < slots → stands b s j ≡ false) → first b s ≡ Nobody
+  pub none_first : ((j : ℕ) → j < slots → stands b s j ≡ false) → first b s ≡ None
   unfolding first
   none_first h =
       search_none (is_first b s) slots (λ j l.
@@ -86,64 +84,64 @@ module _ (b : Board) where
     instead : (f : ℕ) → First_of b false f → Held f → First_of b true m → Why m
 
   -- why nobody is: none is ready, or the first is held back and none is started
-  pub data None : Type 0 where
-    unready : ((j : ℕ) → j < slots → is_ready (life_at b j).state ≡ false) → None
-    unstarted : (f : ℕ) → First_of b false f → Held f → ((j : ℕ) → j < slots → is_started (life_at b j).state ≡ false) → None
+  pub data Unnamed : Type 0 where
+    unready : ((j : ℕ) → j < slots → is_ready (life_at b j).state ≡ false) → Unnamed
+    unstarted : (f : ℕ) → First_of b false f → Held f → ((j : ℕ) → j < slots → is_started (life_at b j).state ≡ false) → Unnamed
 
   -- the named choice, from the first of the ready and whether it may go
-  named_none : first b false ≡ Nobody → named b ≡ Nobody
+  named_none : first b false ≡ None → named b ≡ None
   unfolding named named_by
   named_none e = simp e
 
-  named_itself : (f : ℕ) → first b false ≡ Slot f → may_go b f ≡ true → named b ≡ Slot f
+  named_itself : (f : ℕ) → first b false ≡ Some f → may_go b f ≡ true → named b ≡ Some f
   unfolding named named_by
   named_itself f e g = simp (e, g)
 
-  named_instead : (f : ℕ) → first b false ≡ Slot f → may_go b f ≡ false → named b ≡ first b true
+  named_instead : (f : ℕ) → first b false ≡ Some f → may_go b f ≡ false → named b ≡ first b true
   unfolding named named_by
   named_instead f e g = simp (e, g)
 
-  pub named_why : (m : ℕ) → named b ≡ Slot m → Why m
+  pub named_why : (m : ℕ) → named b ≡ Some m → Why m
   named_why m e = go (first b false) refl
     where
-      go : (c : Choice) → first b false ≡ c → Why m
-      go Nobody q = absurd (no_slot (sym (named_none q) ∙ e))
-      go (Slot f) q = may (may_go b f) refl
+      go : (c : Option ℕ) → first b false ≡ c → Why m
+      go None q = absurd (no_slot (sym (named_none q) ∙ e))
+      go (Some f) q = may (may_go b f) refl
         where
           may : (g : Bool) → may_go b f ≡ g → Why m
           may true g =
               let s : f ≡ m = same_slot (sym (named_itself f q g) ∙ e) in
-              itself (first_found b false m (q ∙ ap Slot s)) (goes_out m (ap (may_go b) (sym s) ∙ g))
+              itself (first_found b false m (q ∙ ap Some s)) (goes_out m (ap (may_go b) (sym s) ∙ g))
           may false g = instead f (first_found b false f q) (held_out f g) (first_found b true m (sym (named_instead f q g) ∙ e))
 
-  pub why_named : (m : ℕ) → Why m → named b ≡ Slot m
+  pub why_named : (m : ℕ) → Why m → named b ≡ Some m
   why_named m (itself h g) = named_itself m (found_first b false m h) (goes_in m g)
   why_named m (instead f h g k) = named_instead f (found_first b false f h) (held_in f g) ∙ found_first b true m k
 
-  pub nobody_why : named b ≡ Nobody → None
+  pub nobody_why : named b ≡ None → Unnamed
   nobody_why e = go (first b false) refl
     where
-      go : (c : Choice) → first b false ≡ c → None
-      go Nobody q = unready (first_none b false q)
-      go (Slot f) q = may (may_go b f) refl
+      go : (c : Option ℕ) → first b false ≡ c → Unnamed
+      go None q = unready (first_none b false q)
+      go (Some f) q = may (may_go b f) refl
         where
-          may : (g : Bool) → may_go b f ≡ g → None
+          may : (g : Bool) → may_go b f ≡ g → Unnamed
           may true g = absurd (no_slot (sym e ∙ named_itself f q g))
           may false g = unstarted f (first_found b false f q) (held_out f g) (first_none b true (sym (named_instead f q g) ∙ e))
 
-  pub why_nobody : None → named b ≡ Nobody
+  pub why_nobody : Unnamed → named b ≡ None
   why_nobody (unready h) = named_none (none_first b false h)
   why_nobody (unstarted f h g k) = named_instead f (found_first b false f h) (held_in f g) ∙ none_first b true k
 
   -- a named slot is a ready server's
-  pub named_below : (m : ℕ) → named b ≡ Slot m → m < slots
+  pub named_below : (m : ℕ) → named b ≡ Some m → m < slots
   named_below m e = go (named_why m e)
     where
       go : Why m → m < slots
       go (itself h g) = h.below
       go (instead f h g k) = k.below
 
-  pub named_ready : (m : ℕ) → named b ≡ Slot m → is_ready (life_at b m).state ≡ true
+  pub named_ready : (m : ℕ) → named b ≡ Some m → is_ready (life_at b m).state ≡ true
   named_ready m e = go (named_why m e)
     where
       go : Why m → is_ready (life_at b m).state ≡ true
@@ -151,17 +149,17 @@ module _ (b : Board) where
       go (instead f h g k) = started_ready (life_at b m).state k.one
 
   -- nothing is locked: there is no ceiling
-  pub no_ceiling : ((r : ℕ) → has b.locked r ≡ false) → ceiling b ≡ Absent
+  pub no_ceiling : ((r : ℕ) → has b.locked r ≡ false) → ceiling b ≡ None
   unfolding ceiling lowest
-  no_ceiling h = lowest_rest (λ r. pick (has b.locked r) (ceiling_of b r) Absent) 0 8 (λ r l. simp (h r))
+  no_ceiling h = lowest_rest (λ r. pick (has b.locked r) (ceiling_of b r) None) 0 8 (λ r l. simp (h r))
 
   -- where a started server stands behind each lock, nobody is named only if none is ready
   pub nobody_unready : ((r : ℕ) → has b.locked r ≡ true → (i : ℕ) × (i < slots) × (is_started (life_at b i).state ≡ true))
-      → named b ≡ Nobody → (j : ℕ) → j < slots → is_ready (life_at b j).state ≡ false
+      → named b ≡ None → (j : ℕ) → j < slots → is_ready (life_at b j).state ≡ false
   unfolding Held
   nobody_unready holder e = go (nobody_why e)
     where
-      go : None → (j : ℕ) → j < slots → is_ready (life_at b j).state ≡ false
+      go : Unnamed → (j : ℕ) → j < slots → is_ready (life_at b j).state ≡ false
       go (unready h) = h
       go (unstarted f h (x, y) k) = absurd (not_both refl (simp (no_ceiling free) at y))
         where

@@ -15,11 +15,11 @@ use Rattle.timing.specs.declared.State.TheVariants.{Idle, Ready, Suspended, Spen
 use Rattle.timing.specs.declared.Lock.{Lock}
 use Rattle.timing.specs.declared.Lock.TheVariants.{Free, On}
 use Rattle.timing.specs.Timing.{hold, held_on}
+use Rattle.refusals.specs.declared.Refusal.TheVariants.{WrongPhase, RunOutOfRange, PastClockEnd}
 use Rattle.board.specs.declared.Board.{Board}
 use Rattle.board.specs.declared.Outcome.{Outcome}
 use Rattle.board.specs.declared.Answer.TheVariants as answer
-use Rattle.board.specs.declared.Choice.{Choice}
-use Rattle.board.specs.declared.Choice.TheVariants.{Nobody, Slot}
+use Rattle.std.specs.Prelude.{Option, Some, None}
 use Rattle.board.specs.Board.{figures_at, life_at, out, number_of, value_of, named}
 use Rattle.board.specs.Calls.{refuse}
 use Rattle.board.specs.Run.{any_due, roused, worked, paused, reached_with, ticked_to, ticked_by, ticked, goes_on, ran_from, passes, stopping, run_with, run_in, run_by, runs}
@@ -29,7 +29,7 @@ use Rattle.board.proofs.Stays.{ran_on, name_stays, goes_held}
 
 -- the named server, if it holds, has run less than its hold
 unfoldable pub Within : Board → Type 0
-Within b = (m : ℕ) (s : Bool) (r : ℕ) (k : Length) → named b ≡ Slot m → (life_at b m).state ≡ Ready s (On r k) → k.0 < (hold (figures_at b m) r).0
+Within b = (m : ℕ) (s : Bool) (r : ℕ) (k : Length) → named b ≡ Some m → (life_at b m).state ≡ Ready s (On r k) → k.0 < (hold (figures_at b m) r).0
 
 module _ (b : Board) (n : ℕ) where
   -- a run that is past its checks and answered 0 stopped nobody
@@ -45,7 +45,7 @@ module _ (b : Board) (n : ℕ) where
   unfolding run_by run_in Within
   by_within z m s r k e q =
       with_within m (On r k)
-      (ap (λ (x : State). number_of (run_in x b m n).answer) (sym q) ∙ ap (λ (c : Choice). number_of (run_by b c n).answer) (sym e) ∙ z) r k refl
+      (ap (λ (x : State). number_of (run_in x b m n).answer) (sym q) ∙ ap (λ (c : Option ℕ). number_of (run_by b c n).answer) (sym e) ∙ z) r k refl
 
   -- and the other way round it is n ticks at most
   within_with : (m : ℕ) (l : Lock) → ((r : ℕ) (k : Length) → l ≡ On r k → k.0 < (hold (figures_at b m) r).0) → run_with l b m n ≡ passes b n
@@ -62,10 +62,10 @@ module _ (b : Board) (n : ℕ) where
   within_in m Spent h = refl
   within_in m Stopped h = refl
 
-  within_by : (c : Choice) → named b ≡ c → Within b → run_by b c n ≡ passes b n
+  within_by : (c : Option ℕ) → named b ≡ c → Within b → run_by b c n ≡ passes b n
   unfolding run_by Within
-  within_by Nobody e w = refl
-  within_by (Slot m) e w = within_in m (life_at b m).state (λ t r k q. w m t r k e q)
+  within_by None e w = refl
+  within_by (Some m) e w = within_in m (life_at b m).state (λ t r k q. w m t r k e q)
 
   -- the checks of a run, and that it stops nobody
   pub record Checked : Type 0 where
@@ -81,7 +81,7 @@ module _ (b : Board) (n : ℕ) where
   checked z = go (not b.running) (not (leb 1 n && leb n longest_run)) (ltb clock_end (b.clock.0 + n)) refl refl refl z
     where
       go : (x y t : Bool) → not b.running ≡ x → not (leb 1 n && leb n longest_run) ≡ y → ltb clock_end (b.clock.0 + n) ≡ t
-          → number_of (pick x (refuse b 1) (pick y (refuse b 17) (pick t (refuse b 18) (run_by b (named b) n)))).answer ≡ 0 → Checked
+          → number_of (pick x (refuse b WrongPhase) (pick y (refuse b RunOutOfRange) (pick t (refuse b PastClockEnd) (run_by b (named b) n)))).answer ≡ 0 → Checked
       go true y t e f g z = absurd (omega arith)
       go false true t e f g z = absurd (omega arith)
       go false false true e f g z = absurd (omega arith)
@@ -98,10 +98,10 @@ roused_running : (b : Board) → (roused b).running ≡ b.running
 unfolding roused
 roused_running b = either (λ (c : Board). c.running ≡ b.running) (any_due b) refl refl
 
-ticked_by_running : (b : Board) (c : Choice) → (ticked_by b c).board.running ≡ b.running
+ticked_by_running : (b : Board) (c : Option ℕ) → (ticked_by b c).board.running ≡ b.running
 unfolding ticked_by ticked_to paused worked
-ticked_by_running b Nobody = roused_running (paused b)
-ticked_by_running b (Slot m) = roused_running (worked b m)
+ticked_by_running b None = roused_running (paused b)
+ticked_by_running b (Some m) = roused_running (worked b m)
 
 -- n single ticks leave it running
 pub single_running : (b : Board) (n : ℕ) → (single b n).running ≡ b.running

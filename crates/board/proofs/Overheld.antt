@@ -22,8 +22,7 @@ use Rattle.timing.specs.Timing.{begun, in_state, is_ready, hold}
 use Rattle.board.specs.declared.Board.{Board}
 use Rattle.board.specs.declared.Outcome.{Outcome}
 use Rattle.board.specs.declared.Answer.TheVariants as answer
-use Rattle.board.specs.declared.Choice.{Choice}
-use Rattle.board.specs.declared.Choice.TheVariants.{Nobody, Slot}
+use Rattle.std.specs.Prelude.{Option, Some, None}
 use Rattle.board.specs.Board.{figures_at, life_at, with_sets, number_of, named}
 use Rattle.board.specs.Run.{passes, stopping, run_with, run_in, run_by, runs}
 use Rattle.board.proofs.Stays.{slot_inside}
@@ -34,7 +33,7 @@ pub record Overheld (b : Board) (o : Outcome) : Type 0 where
   pub started : Bool
   pub resource : ℕ
   pub held : Length
-  pub is_named : named b ≡ Slot who
+  pub is_named : named b ≡ Some who
   pub holding : (life_at b who).state ≡ Ready started (On resource held)
   pub full : (hold (figures_at b who) resource).0 ≤ held.0
   pub answer_is : o.answer ≡ answer.Overheld
@@ -48,7 +47,7 @@ module _ (b : Board) (n : ℕ) where
   unfolding passes
   pass_of z = absurd (omega arith)
 
-  run_with_lem : (m : ℕ) (s : Bool) (l : Lock) → named b ≡ Slot m → (life_at b m).state ≡ Ready s l → Stops (run_with l b m n)
+  run_with_lem : (m : ℕ) (s : Bool) (l : Lock) → named b ≡ Some m → (life_at b m).state ≡ Ready s l → Stops (run_with l b m n)
   unfolding run_with stopping
   run_with_lem m s Free e q = pass_of
   run_with_lem m s (On r k) e q = go (leb (hold (figures_at b m) r).0 k.0) refl
@@ -67,7 +66,7 @@ module _ (b : Board) (n : ℕ) where
         board_is = refl;
       }
 
-  run_in_lem : (m : ℕ) (s : State) → named b ≡ Slot m → (life_at b m).state ≡ s → Stops (run_in s b m n)
+  run_in_lem : (m : ℕ) (s : State) → named b ≡ Some m → (life_at b m).state ≡ s → Stops (run_in s b m n)
   unfolding run_in
   run_in_lem m (Ready s l) e q = run_with_lem m s l e q
   run_in_lem m Idle e q = pass_of
@@ -75,10 +74,10 @@ module _ (b : Board) (n : ℕ) where
   run_in_lem m Spent e q = pass_of
   run_in_lem m Stopped e q = pass_of
 
-  run_by_lem : (c : Choice) → named b ≡ c → Stops (run_by b c n)
+  run_by_lem : (c : Option ℕ) → named b ≡ c → Stops (run_by b c n)
   unfolding run_by
-  run_by_lem Nobody e = pass_of
-  run_by_lem (Slot m) e = run_in_lem m (life_at b m).state e refl
+  run_by_lem None e = pass_of
+  run_by_lem (Some m) e = run_in_lem m (life_at b m).state e refl
 
   -- what a run answered 22 says
   pub overheld : number_of (runs b n).answer ≡ 22 → Overheld b (runs b n)
@@ -89,7 +88,7 @@ module _ (b : Board) (n : ℕ) where
       (either Stops (ltb clock_end (b.clock.0 + n)) (λ z. absurd (omega arith)) (run_by_lem (named b) refl)))
 
   -- and the other way round: a run that passes its checks on such a board stops the named server
-  pub stops : b.running ≡ true → 1 ≤ n → n ≤ longest_run → b.clock.0 + n ≤ clock_end → (m : ℕ) (s : Bool) (r : ℕ) (k : Length) → named b ≡ Slot m
+  pub stops : b.running ≡ true → 1 ≤ n → n ≤ longest_run → b.clock.0 + n ≤ clock_end → (m : ℕ) (s : Bool) (r : ℕ) (k : Length) → named b ≡ Some m
       → (life_at b m).state ≡ Ready s (On r k) → (hold (figures_at b m) r).0 ≤ k.0 → runs b n ≡ stopping b m r
   unfolding runs run_by run_in run_with
   stops on low high time m s r k e q full =

@@ -5,18 +5,19 @@ use mathlib.Core.List.{List}
 use mathlib.Core.Logic.{inl, inr}
 use mathlib.Core.Bool.{not, ◌&&◌}
 use native.Mathlib.Omega.{arith}
-use lib.Dec.{leb, eqb}
+use lib.Dec.{leb}
 use Rattle.terms.proofs.Tests.{either}
 use Rattle.quantity.specs.Quantity.{largest_frame}
-use Rattle.admission.specs.declared.Judged.{Judged}
+use Rattle.refusals.specs.declared.Refusal.{Refusal}
+use Rattle.refusals.specs.declared.Refusal.TheVariants.{WrongPhase, TableFull, FrameOutOfRange}
 use Rattle.board.specs.declared.Board.{Board}
 use Rattle.board.specs.declared.Outcome.{Outcome}
 use Rattle.board.specs.declared.Answer.{Answer}
 use Rattle.board.specs.declared.Answer.TheVariants as answer
+use Rattle.timing.specs.declared.Figures.{Figures}
 use Rattle.timing.specs.declared.Life.{Life}
 use Rattle.resources.specs.declared.Set.{Set}
-use Rattle.board.specs.declared.Choice.{Choice}
-use Rattle.board.specs.declared.Choice.TheVariants as choice
+use Rattle.std.specs.Prelude.{Option, Some, None, Result, Ok, Err}
 use Rattle.board.specs.Board.{with_life, with_sets, out, number_of, value_of}
 use Rattle.board.specs.Calls.{refuse, opened, commissioning, vacancy, admitted_as, admitted_in, admitted, started}
 use Rattle.board.specs.Run.{passes}
@@ -28,9 +29,9 @@ module _ (b : Board) where
   pub Kept : Outcome → Type 0
   Kept o = 1 ≤ number_of o.answer → number_of o.answer ≤ 19 → (o.board ≡ b) × (value_of o.answer ≡ 0)
 
-  refused : (n : ℕ) → Kept (refuse b n)
+  refused : (why : Refusal) → Kept (refuse b why)
   unfolding Kept
-  refused n low high = (refl, refl)
+  refused why low high = (refl, refl)
 
   -- the numbers of the other answers
   served : (c : Board) (a : Answer) → Served a → Kept (out c a)
@@ -41,14 +42,15 @@ module _ (b : Board) where
   fine : (c : Board) (v : ℕ) → Kept (out c (answer.Done v))
   fine c v = served c (answer.Done v) (inl refl)
 
-  admit_as : (i : ℕ) (j : Judged) → Kept (admitted_as b i j)
+  admit_as : (i : ℕ) (judged : Result Figures Refusal) → Kept (admitted_as b i judged)
   unfolding admitted_as
-  admit_as i j = either Kept (eqb j.number 0) (fine _ i) (refused j.number)
+  admit_as i (Ok f) = fine _ i
+  admit_as i (Err why) = refused why
 
-  admit_in : (c : Choice) (p q : ℕ) (hs : List ℕ) → Kept (admitted_in b c p q hs)
+  admit_in : (c : Option ℕ) (p q : ℕ) (hs : List ℕ) → Kept (admitted_in b c p q hs)
   unfolding admitted_in
-  admit_in choice.Nobody p q hs = refused 2
-  admit_in (choice.Slot i) p q hs = admit_as i _
+  admit_in None p q hs = refused TableFull
+  admit_in (Some i) p q hs = admit_as i _
 
   -- the ways out of the calls of a server and of a run
   alive : (i : ℕ) (l : Life) (a : Answer) → Served a → Kept (out (with_life b i l) a)
@@ -63,9 +65,9 @@ module _ (b : Board) where
 
   kept : (c : Call) → Kept (made b c)
   unfolding made opened admitted started
-  kept (Open frame) = either Kept (leb 1 frame && leb frame largest_frame) (fine _ 0) (refused 3)
-  kept (Admit p q hs) = either Kept (not (commissioning b)) (refused 1) (admit_in (vacancy b.table) p q hs)
-  kept Start = either Kept (not (commissioning b)) (refused 1) (fine _ 0)
+  kept (Open frame) = either Kept (leb 1 frame && leb frame largest_frame) (fine _ 0) (refused FrameOutOfRange)
+  kept (Admit p q hs) = either Kept (not (commissioning b)) (refused WrongPhase) (admit_in (vacancy b.table) p q hs)
+  kept Start = either Kept (not (commissioning b)) (refused WrongPhase) (fine _ 0)
   kept (Arrive i) = arrive_ends b Kept refused alive sets pass_of i
   kept (Done i) = done_ends b Kept refused alive sets pass_of i
   kept (Lock i r) = lock_ends b Kept refused alive sets pass_of i r

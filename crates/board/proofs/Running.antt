@@ -17,8 +17,7 @@ use Rattle.board.specs.declared.Board.{Board}
 use Rattle.board.specs.declared.Outcome.{Outcome}
 use Rattle.board.specs.declared.Ran.{Ran}
 use Rattle.board.specs.declared.Reason.TheVariants.{Whole}
-use Rattle.board.specs.declared.Choice.{Choice}
-use Rattle.board.specs.declared.Choice.TheVariants.{Nobody, Slot}
+use Rattle.std.specs.Prelude.{Option, Some, None}
 use Rattle.board.specs.Board.{figures_at, number_of, value_of, named}
 use Rattle.board.specs.Run.{any_due, roused, worked, paused, ticked_to, ticked_by, ticked, goes_on, ran_from, passes, stopping, run_with, run_in, run_by, runs}
 use Rattle.board.specs.Machine.{single}
@@ -107,10 +106,10 @@ roused_clock : (b : Board) → (roused b).clock ≡ b.clock
 unfolding roused
 roused_clock b = either (λ (c : Board). c.clock ≡ b.clock) (any_due b) refl refl
 
-ticked_by_lem : (b : Board) (c : Choice) → (ticked_by b c).board.clock ≡ later b.clock (ticks 1)
+ticked_by_lem : (b : Board) (c : Option ℕ) → (ticked_by b c).board.clock ≡ later b.clock (ticks 1)
 unfolding ticked_by ticked_to paused worked
-ticked_by_lem b Nobody = roused_clock (paused b)
-ticked_by_lem b (Slot m) = roused_clock (worked b m)
+ticked_by_lem b None = roused_clock (paused b)
+ticked_by_lem b (Some m) = roused_clock (worked b m)
 
 pub ticked_clock : (b : Board) → b.clock.0 + 1 ≤ last_instant → (ticked b).board.clock.0 ≡ b.clock.0 + 1
 unfolding ticked
@@ -180,10 +179,10 @@ module _ (b : Board) (n : ℕ) (low : 1 ≤ n) (high : b.clock.0 + n ≤ clock_e
   run_in_lem Spent m = pass_of
   run_in_lem Stopped m = pass_of
 
-  run_by_lem : (c : Choice) → Run_of (run_by b c n)
+  run_by_lem : (c : Option ℕ) → Run_of (run_by b c n)
   unfolding run_by
-  run_by_lem Nobody = pass_of
-  run_by_lem (Slot m) = run_in_lem _ m
+  run_by_lem None = pass_of
+  run_by_lem (Some m) = run_in_lem _ m
 
 pub run_is_ticks : (b : Board) (n : ℕ) → number_of (runs b n).answer ≡ 0 → Ran_so b n (runs b n)
 unfolding runs

@@ -22,8 +22,7 @@ use Rattle.timing.specs.Timing.{begun, is_ready, is_started, settled, held_on, r
 use Rattle.timing.specs.Timing.Laws.{ran_ready, settled_left, settled_holds}
 use Rattle.admission.specs.Admission.{slots}
 use Rattle.board.specs.declared.Board.{Board}
-use Rattle.board.specs.declared.Choice.{Choice}
-use Rattle.board.specs.declared.Choice.TheVariants.{Nobody, Slot}
+use Rattle.std.specs.Prelude.{Option, Some, None}
 use Rattle.board.specs.declared.Reason.{Reason}
 use Rattle.board.specs.declared.Reason.TheVariants.{Whole, Changed, Reached}
 use Rattle.board.specs.declared.Ticked.{Ticked}
@@ -100,22 +99,22 @@ pub record Ran_on (b : Board) (m : ℕ) (d : Board) : Type 0 where
   pub ends_nothing : goes_on (reached_with (held_on lock) (figures_at b m) (shorter (life_at b m).left (ticks 1))) ≡ true
 
 module _ (b : Board) (g : goes_on (ticked b).reason ≡ true) where
-  ticked_to_lem : (c : Choice) → named b ≡ c → ticked b ≡ ticked_by b c
+  ticked_to_lem : (c : Option ℕ) → named b ≡ c → ticked b ≡ ticked_by b c
   unfolding ticked
   ticked_to_lem c e = ap (ticked_by b) e
 
   -- with nobody named only the clock moves
-  pub pauses : named b ≡ Nobody → (ticked b).board ≡ paused b
+  pub pauses : named b ≡ None → (ticked b).board ≡ paused b
   unfolding ticked_by
   pauses e =
-      let q = ticked_to_lem Nobody e in
+      let q = ticked_to_lem None e in
       ap (λ (x : Ticked). x.board) q ∙ (quiet (paused b) Whole (ap (λ (x : Ticked). goes_on x.reason) (sym q) ∙ g)).0
 
   -- with m named only m's life and the clock move
-  pub ran_on : (m : ℕ) → named b ≡ Slot m → Ran_on b m (ticked b).board
+  pub ran_on : (m : ℕ) → named b ≡ Some m → Ran_on b m (ticked b).board
   unfolding ticked_by worked
   ran_on m e =
-      let q = ticked_to_lem (Slot m) e in
+      let q = ticked_to_lem (Some m) e in
       let (s, w) = quiet (worked b m) (reached b m) (ap (λ (x : Ticked). goes_on x.reason) (sym q) ∙ g) in
       let r = named_ready b m e in
       let (t, k, u) = ready_is (life_at b m).state r in
@@ -134,10 +133,10 @@ abbrev pub moved : Board → Instant → Board
 moved b t = next b b.lives t b.locked b.closed
 
 -- the name does not depend on the clock
-moved_by : (b : Board) (t : Instant) (c : Choice) → named_by (moved b t) c ≡ named_by b c
+moved_by : (b : Board) (t : Instant) (c : Option ℕ) → named_by (moved b t) c ≡ named_by b c
 unfolding named_by first may_go ceiling ceiling_of
-moved_by b t Nobody = refl
-moved_by b t (Slot f) = refl
+moved_by b t None = refl
+moved_by b t (Some f) = refl
 
 pub moved_same : (b : Board) (t : Instant) → named (moved b t) ≡ named b
 unfolding named first
@@ -199,8 +198,8 @@ pub name_stays : (b : Board) → goes_on (ticked b).reason ≡ true → named (t
 unfolding paused
 name_stays b g = go (named b) refl
   where
-    go : (c : Choice) → named b ≡ c → named (ticked b).board ≡ named b
-    go Nobody e = ap named (pauses b g e) ∙ moved_same b (later b.clock (ticks 1))
-    go (Slot m) e =
+    go : (c : Option ℕ) → named b ≡ c → named (ticked b).board ≡ named b
+    go None e = ap named (pauses b g e) ∙ moved_same b (later b.clock (ticks 1))
+    go (Some m) e =
         let h = ran_on b g m e in
         ap named h.board_is ∙ why_named (worked b m) m (why_stays b m (ticked b).board h (named_why b m e)) ∙ sym e

@@ -1,5 +1,5 @@
 -- What happens in a call, in the order in which it happens: the ticks of servers, and their replenishments with their starts.
-use Rattle.std.specs.Prelude.{ℕ, zero, suc, Bool, true, List, [], ◌∷◌, ◌++◌, eqb}
+use Rattle.std.specs.Prelude.{ℕ, zero, suc, Bool, true, List, [], ◌∷◌, ◌++◌, eqb, Option, Some, None}
 use Rattle.terms.specs.Words.{pick}
 use Rattle.quantity.specs.declared.Instant.{Instant}
 use Rattle.quantity.specs.Quantity.{ticks, later}
@@ -11,8 +11,6 @@ use Rattle.timing.specs.declared.Lock.TheVariants.{Free, On}
 use Rattle.timing.specs.Timing.{in_state, tr, due, ran}
 use Rattle.admission.specs.Admission.{slots}
 use Rattle.board.specs.declared.Board.{Board}
-use Rattle.board.specs.declared.Choice.{Choice}
-use Rattle.board.specs.declared.Choice.TheVariants.{Nobody, Slot}
 use Rattle.board.specs.Board.{figures_at, life_at, number_of, value_of, named}
 use Rattle.board.specs.Run.{ticked}
 use Rattle.board.specs.Machine.{Call, Open, Admit, Start, Arrive, Done, Lock, Unlock, Run, made}
@@ -51,9 +49,9 @@ abbrev pub ran_lives : Board → ℕ → ℕ → Life
 ran_lives b m i = pick (eqb i m) (run_out (ran (life_at b m))) (life_at b i)
 
 -- one tick: who is named runs, then servers whose instant has come are replenished
-unfoldable pub tick_told : Board → Choice → List Event
-tick_told b Nobody = renewals (life_at b) (later b.clock (ticks 1)) slots
-tick_told b (Slot m) = Ran m ∷ renewals (ran_lives b m) (later b.clock (ticks 1)) slots
+unfoldable pub tick_told : Board → Option ℕ → List Event
+tick_told b None = renewals (life_at b) (later b.clock (ticks 1)) slots
+tick_told b (Some m) = Ran m ∷ renewals (ran_lives b m) (later b.clock (ticks 1)) slots
 
 -- n single ticks
 unfoldable pub ticks_told : Board → ℕ → List Event

@@ -1,5 +1,5 @@
 -- Running (document 01, "Running"): one tick, and run n as that many single ticks up to the first event.
-use Rattle.std.specs.Prelude.{ℕ, zero, suc, ◌+◌, Bool, true, false, not, ◌&&◌, set, ltb, leb, eqb}
+use Rattle.std.specs.Prelude.{ℕ, zero, suc, ◌+◌, Bool, true, false, not, ◌&&◌, set, ltb, leb, eqb, Option, Some, None}
 use Rattle.terms.specs.Words.{pick, some, list}
 use Rattle.quantity.specs.declared.Length.{Length}
 use Rattle.quantity.specs.Quantity.{ticks, later, longest_run, clock_end}
@@ -12,11 +12,10 @@ use Rattle.timing.specs.declared.Lock.{Lock}
 use Rattle.timing.specs.declared.Lock.TheVariants.{Free, On}
 use Rattle.timing.specs.Timing.{in_state, hold, settled, due, woken, ran}
 use Rattle.admission.specs.Admission.{slots}
+use Rattle.refusals.specs.declared.Refusal.TheVariants.{WrongPhase, RunOutOfRange, PastClockEnd}
 use Rattle.board.specs.declared.Board.{Board}
 use Rattle.board.specs.declared.Outcome.{Outcome}
 use Rattle.board.specs.declared.Answer.TheVariants as answer
-use Rattle.board.specs.declared.Choice.{Choice}
-use Rattle.board.specs.declared.Choice.TheVariants.{Nobody, Slot}
 use Rattle.board.specs.declared.Reason.{Reason}
 use Rattle.board.specs.declared.Reason.TheVariants.{Whole, Changed, Reached}
 use Rattle.board.specs.declared.Ticked.{Ticked}
@@ -64,9 +63,9 @@ reached b m = reached_in (ran (life_at b m)).state (figures_at b m) (ran (life_a
 unfoldable pub ticked_to : Board → Reason → Ticked
 ticked_to b why = record { board = roused b; reason = pick (any_due b) Changed why }
 
-unfoldable pub ticked_by : Board → Choice → Ticked
-ticked_by b Nobody = ticked_to (paused b) Whole
-ticked_by b (Slot m) = ticked_to (worked b m) (reached b m)
+unfoldable pub ticked_by : Board → Option ℕ → Ticked
+ticked_by b None = ticked_to (paused b) Whole
+ticked_by b (Some m) = ticked_to (worked b m) (reached b m)
 
 unfoldable pub ticked : Board → Ticked
 ticked b = ticked_by b (named b)
@@ -101,13 +100,13 @@ run_in (Suspended t) b m n = passes b n
 run_in Spent b m n = passes b n
 run_in Stopped b m n = passes b n
 
-unfoldable pub run_by : Board → Choice → ℕ → Outcome
-run_by b Nobody n = passes b n
-run_by b (Slot m) n = run_in (life_at b m).state b m n
+unfoldable pub run_by : Board → Option ℕ → ℕ → Outcome
+run_by b None n = passes b n
+run_by b (Some m) n = run_in (life_at b m).state b m n
 
 -- run: 1, 17, 18
 unfoldable pub runs : Board → ℕ → Outcome
 runs b n =
-    pick (not b.running) (refuse b 1)
-    (pick (not (leb 1 n && leb n longest_run)) (refuse b 17)
-    (pick (ltb clock_end (b.clock.0 + n)) (refuse b 18) (run_by b (named b) n)))
+    pick (not b.running) (refuse b WrongPhase)
+    (pick (not (leb 1 n && leb n longest_run)) (refuse b RunOutOfRange)
+    (pick (ltb clock_end (b.clock.0 + n)) (refuse b PastClockEnd) (run_by b (named b) n)))

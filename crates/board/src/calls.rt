@@ -1,29 +1,18 @@
 // Commissioning: opening a board, admitting servers, starting.
-ghost use Rattle.std.specs.Prelude.{◌≡◌, ℕ, ◌<◌};
-ghost use Rattle.board.specs.declared.Choice.TheVariants.{Slot};
+ghost use Rattle.std.specs.Prelude.{◌≡◌};
 ghost use Rattle.board.specs.Calls.{fresh, blank, opened, commissioning, vacancy, with_table, admitted_as, admitted_in, admitted, started};
 
-use crate::{Answer, Board, Choice, Outcome};
-use admission::Judged;
+use crate::{Answer, Board, Outcome, Slot};
 use quantity::{Instant, Length};
+use refusals::Refusal;
 use resources::Set;
 use timing::{Figures, Life};
 
 // The lowest slot that is not in the table.
-#[tactic(auto, using(crate::proofs::Search::search_first, crate::proofs::Search::search_next, crate::proofs::Search::no_slot, crate::proofs::Search::same_slot), unfolding(crate::specs::Board::seek, crate::specs::Calls::vacancy))]
-fn vacancy(table: [Figures; 16]) -> Choice
-    ensures is { result ≡ vacancy table }
-    ensures low { (s : ℕ) → result ≡ Slot s → s < 16 }
+fn vacancy(table: [Figures; 16]) -> Option<Slot>
+    ensures { result ≡ vacancy table }
 {
-    let mut i = 0;
-    while i < 16 {
-        let f = table[i];
-        if !f.is_present() {
-            return Choice::Slot(i);
-        }
-        i += 1;
-    }
-    Choice::Nobody
+    table.iter().position(|f| !f.is_present()).map(Slot::new)
 }
 
 impl Board {
@@ -32,12 +21,11 @@ impl Board {
     fn fresh(frame: Length) -> Board
         ensures { result ≡ fresh frame }
     {
-        let idle = Life::begin();
         Board {
             frame,
             running: false,
             table: [Figures::NOBODY; 16],
-            lives: [idle; 16],
+            lives: [Life::begin(); 16],
             clock: Instant::BEGIN,
             locked: Set::EMPTY,
             closed: Set::EMPTY,
@@ -48,7 +36,7 @@ impl Board {
     pub fn blank() -> Board
         ensures { result ≡ blank }
     {
-        Board::fresh(Length(0))
+        Board::fresh(Length::NONE)
     }
 
     // Opening with a frame is allowed at any time and begins afresh.
@@ -56,15 +44,11 @@ impl Board {
     pub fn open(self, frame: u64) -> Outcome
         ensures { result ≡ opened self frame }
     {
-        if frame < 1 {
-            return self.refuse(3);
+        if !(1..=u64::from(Length::LARGEST_FRAME.0)).contains(&frame) {
+            return self.refuse(Refusal::FrameOutOfRange);
         }
-        if (Length::LARGEST_FRAME.0 as u64) < frame {
-            return self.refuse(3);
-        }
-        let b = Board::fresh(Length::of(frame));
         Outcome {
-            board: b,
+            board: Board::fresh(Length::of(frame)),
             answer: Answer::Done(0),
         }
     }
@@ -74,48 +58,28 @@ impl Board {
     fn is_commissioning(self) -> bool
         ensures { result ≡ commissioning self }
     {
-        if self.running {
-            return false;
-        }
-        if self.frame.0 == 0 { false } else { true }
+        !self.running && self.frame != Length::NONE
     }
 
     // The board with another table.
     fn with_table(self, table: [Figures; 16]) -> Board
         ensures { result ≡ with_table self table }
     {
-        let frame = self.frame;
-        let lives = self.lives;
-        let clock = self.clock;
-        let locked = self.locked;
-        let closed = self.closed;
-        Board {
-            frame,
-            running: self.running,
-            table,
-            lives,
-            clock,
-            locked,
-            closed,
-        }
+        Board { table, ..self }
     }
 
-    // The board with the newcomer that was judged.
+    // The board with the newcomer, if it was admitted.
     #[tactic(auto, unfolding(crate::specs::Calls::admitted_as))]
-    fn admit_as(self, slot: usize, judged: Judged) -> Outcome
-        requires { slot < 16 }
+    fn admit_as(self, slot: Slot, judged: Result<Figures, Refusal>) -> Outcome
         ensures { result ≡ admitted_as self slot judged }
     {
-        if judged.number != 0 {
-            return self.refuse(judged.number);
-        }
-        let f = judged.figures;
-        let table = self.table;
-        let t = admission::place(table, slot, f);
-        let b = self.with_table(t);
-        Outcome {
-            board: b,
-            answer: Answer::Done(slot as u64),
+        match judged {
+            Ok(figures) => Outcome {
+                board: self.with_table(admission::place(self.table, slot.index(), figures)),
+                // There is no From between usize and u64.
+                answer: Answer::Done(slot.index() as u64),
+            },
+            Err(why) => self.refuse(why),
         }
     }
 
@@ -125,41 +89,39 @@ impl Board {
         ensures { result ≡ admitted self period budget holds }
     {
         if !self.is_commissioning() {
-            return self.refuse(1);
+            return self.refuse(Refusal::WrongPhase);
         }
-        let table = self.table;
-        let free = vacancy(table);
-        match free {
-            Choice::Nobody => self.refuse(2),
-            Choice::Slot(slot) => {
-                let j = admission::judge(table, slot, self.frame, period, budget, holds);
-                self.admit_as(slot, j)
+        match vacancy(self.table) {
+            None => self.refuse(Refusal::TableFull),
+            Some(slot) => {
+                let judged = admission::judge(
+                    self.table,
+                    slot.index(),
+                    self.frame,
+                    period,
+                    budget,
+                    holds,
+                );
+                self.admit_as(slot, judged)
             }
         }
     }
 
     // All servers begin idle, at clock 0.
-    #[tactic(auto, unfolding(crate::specs::Calls::started))]
+    #[tactic(auto, unfolding(crate::specs::Calls::fresh, crate::specs::Calls::started))]
     pub fn start(self) -> Outcome
         ensures { result ≡ started self }
     {
         if !self.is_commissioning() {
-            return self.refuse(1);
+            return self.refuse(Refusal::WrongPhase);
         }
-        let idle = Life::begin();
-        let frame = self.frame;
         let table = self.table;
-        let b = Board {
-            frame,
-            running: true,
-            table,
-            lives: [idle; 16],
-            clock: Instant::BEGIN,
-            locked: Set::EMPTY,
-            closed: Set::EMPTY,
-        };
         Outcome {
-            board: b,
+            board: Board {
+                running: true,
+                table,
+                ..Board::fresh(self.frame)
+            },
             answer: Answer::Done(0),
         }
     }

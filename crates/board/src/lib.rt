@@ -1,8 +1,10 @@
 // The board: one processor, up to 16 servers, 8 shared resources and a clock in whole ticks.
 #![tactic(auto)]
 
-ghost use Rattle.std.specs.Prelude.{◌≡◌, ◌<◌};
-ghost use Rattle.board.specs.Board.{number_of, value_of, with_life, with_sets, lower, clears, is_slot};
+ghost use Rattle.std.specs.Prelude.{◌≡◌, ◌<◌, ltb};
+ghost use Rattle.std.specs.Ordering.{is_lt};
+ghost use Rattle.terms.specs.Words.{pick};
+ghost use Rattle.board.specs.Board.{number_of, value_of, lesser, figures_at, life_at, with_life, with_sets};
 ghost use Rattle.board.specs.Calls.{refuse};
 
 mod calls;
@@ -11,13 +13,17 @@ mod run;
 mod serve;
 
 use quantity::{Instant, Length};
+use refusals::Refusal;
 use resources::Set;
+use std::marker::Model;
 use timing::{Figures, Life};
 
 #[derive(Clone, Copy)]
 pub struct Board {
     pub frame: Length,
+    // The phase itself, which theorems name (`answers_all`), not a flag for another value.
     pub running: bool,
+    // Two arrays: admission and the sheet go by the table alone, and what was admitted never changes with a life.
     pub table: [Figures; 16],
     pub lives: [Life; 16],
     pub clock: Instant,
@@ -29,7 +35,7 @@ pub struct Board {
 #[derive(Clone, Copy)]
 pub enum Answer {
     Done(u64),
-    Refused(u8),
+    Refused(Refusal),
     Suspended(Instant),
     Renewed,
     Overheld,
@@ -41,24 +47,10 @@ pub struct Outcome {
     pub answer: Answer,
 }
 
-// A slot, or nobody.
-#[derive(Clone, Copy)]
-pub enum Choice {
-    Nobody,
-    Slot(usize),
-}
-
-// The ceiling of a resource or of the board: a period, or none.
-#[derive(Clone, Copy)]
-pub enum Ceiling {
-    Absent,
-    Period(Length),
-}
-
 // The best of the slots looked at so far, with its deadline.
 #[derive(Clone, Copy)]
 pub struct Best {
-    any: bool,
+    // A number: with a Slot here the check does not cover the loop of `first`.
     slot: usize,
     deadline: Instant,
 }
@@ -86,13 +78,23 @@ pub struct Ran {
     pub reason: Reason,
 }
 
+// The lesser of two, where what is absent is the greatest.
+fn lesser<T: Ord + Copy>(a: Option<T>, b: Option<T>) -> Option<T>
+    ensures { result ≡ lesser (λ x y. is_lt (T.cmp x y)) a b }
+{
+    match (a, b) {
+        (Some(x), Some(y)) => Some(x.min(y)),
+        _ => a.or(b),
+    }
+}
+
 impl Answer {
     pub fn number(self) -> u8
         ensures { result ≡ number_of self }
     {
         match self {
             Answer::Done(_) => 0,
-            Answer::Refused(n) => n,
+            Answer::Refused(why) => u8::from(why),
             Answer::Suspended(_) => 20,
             Answer::Renewed => 21,
             Answer::Overheld => 22,
@@ -104,84 +106,98 @@ impl Answer {
     {
         match self {
             Answer::Done(v) => v,
-            Answer::Refused(_) => 0,
-            Answer::Suspended(t) => t.number(),
-            Answer::Renewed => 0,
-            Answer::Overheld => 0,
+            Answer::Suspended(t) => u64::from(t),
+            Answer::Refused(_) | Answer::Renewed | Answer::Overheld => 0,
         }
     }
 }
 
-impl Ceiling {
-    fn lower(self, other: Ceiling) -> Ceiling
-        ensures { result ≡ lower self other }
+// A slot of the table; a clause sees its number.
+#[derive(Clone, Copy)]
+struct Slot {
+    index: usize,
+}
+
+impl Model for Slot {
+    ghost use Rattle.std.specs.Prelude.{ℕ, ◌<◌};
+
+    ghost Value = { ℕ };
+
+    ghost view = { λ s. s.index };
+
+    ghost invariant = { λ s. s.index < 16 };
+
+    ghost inverse = { λ i. record { index = i } };
+}
+
+impl Slot {
+    fn new(index: usize) -> Slot
+        requires { index < 16 }
+        ensures { result ≡ index }
     {
-        match self {
-            Ceiling::Absent => other,
-            Ceiling::Period(p) => match other {
-                Ceiling::Absent => self,
-                Ceiling::Period(q) => { if q.is_below(p) { other } else { self } }
-            },
+        Slot { index }
+    }
+
+    // The slot with that number, if there is one.
+    fn of(number: u64) -> Option<Slot>
+        ensures { result ≡ pick (ltb number 16) (Some number) None }
+    {
+        match usize::try_from(number) {
+            Ok(index) if index < 16 => Some(Slot::new(index)),
+            _ => None,
         }
     }
 
-    // Whether a server with period p may start.
-    fn clears(self, p: Length) -> bool
-        ensures { result ≡ clears p self }
+    fn index(self) -> usize
+        ensures is { result ≡ self }
+        ensures low { result < 16 }
     {
-        match self {
-            Ceiling::Absent => true,
-            Ceiling::Period(c) => p.is_below(c),
-        }
+        self.index
     }
 }
 
 impl Board {
-    // The board as it is, and the number of the rule that was broken.
-    fn refuse(self, number: u8) -> Outcome
-        ensures { result ≡ refuse self number }
+    // The board as it is, and the rule that was broken.
+    fn refuse(self, why: Refusal) -> Outcome
+        ensures { result ≡ refuse self why }
     {
         Outcome {
             board: self,
-            answer: Answer::Refused(number),
+            answer: Answer::Refused(why),
         }
+    }
+
+    // What was admitted to a slot.
+    fn figures(self, slot: Slot) -> Figures
+        ensures { result ≡ figures_at self slot }
+    {
+        self.table[slot.index()]
+    }
+
+    fn life(self, slot: Slot) -> Life
+        ensures { result ≡ life_at self slot }
+    {
+        self.lives[slot.index()]
     }
 
     // The board with another life in a slot.
     #[tactic(auto, unfolding(crate::specs::Board::with_life))]
-    fn with_life(self, slot: usize, l: Life) -> Board
-        requires { slot < 16 }
-        ensures { result ≡ with_life self slot l }
+    fn with_life(mut self, slot: Slot, life: Life) -> Board
+        ensures { result ≡ with_life self slot life }
     {
-        let mut b = self;
-        b.lives[slot] = l;
-        b
+        self.lives[slot.index()] = life;
+        self
     }
-}
 
-impl Board {
     // The board with another life in a slot and other sets.
-    #[tactic(auto, unfolding(crate::specs::Board::with_sets))]
-    fn with_sets(self, slot: usize, l: Life, locked: Set, closed: Set) -> Board
-        requires { slot < 16 }
-        ensures { result ≡ with_sets self slot l locked closed }
+    #[tactic(auto, unfolding(crate::specs::Board::with_sets, crate::specs::Board::with_life))]
+    fn with_sets(self, slot: Slot, life: Life, locked: Set, closed: Set) -> Board
+        ensures { result ≡ with_sets self slot life locked closed }
     {
-        let mut b = self;
-        b.lives[slot] = l;
-        b.locked = locked;
-        b.closed = closed;
-        b
-    }
-}
-
-impl Choice {
-    // Whether this is the slot.
-    fn is_slot(self, slot: usize) -> bool
-        ensures { result ≡ is_slot self slot }
-    {
-        match self {
-            Choice::Nobody => false,
-            Choice::Slot(s) => s == slot,
+        Board {
+            locked,
+            closed,
+            ..self.with_life(slot, life)
         }
     }
 }

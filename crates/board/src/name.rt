@@ -1,200 +1,136 @@
 // Who runs.
-ghost use Rattle.std.specs.Prelude.{◌≡◌, ℕ, ◌<◌, ◌%◌, eqb};
-ghost use Rattle.board.specs.declared.Choice.TheVariants.{Slot};
-ghost use Rattle.board.specs.Board.{stands_in, first, uses_in, ceiling_of, ceiling, may_go, named_by, named};
-ghost use Rattle.board.specs.Steps.{keeps, better_of, best_of, user_ceiling, ceiling_step};
+ghost use Rattle.std.specs.Prelude.{◌≡◌, ℕ, ◌<◌, ◌%◌, Bool, eqb, Some};
+ghost use Rattle.board.specs.Board.{clears, first, uses_in, ceiling_of, ceiling, may_go, named_by, named};
+ghost use Rattle.board.specs.Steps.{keeps, Tests, user_ceiling, ceiling_step};
 
-use crate::{Best, Board, Ceiling, Choice};
-use quantity::Instant;
+use crate::{Best, Board, Slot, lesser};
+use quantity::{Instant, Length};
 use timing::{Figures, State};
 
-// A ready server, or a started one.
-fn stands(state: State, started: bool) -> bool
-    ensures { result ≡ stands_in state started }
+// Whether a server with period p may start below a ceiling.
+fn clears(c: Option<Length>, p: Length) -> bool
+    ensures { result ≡ clears p c }
 {
-    if started {
-        state.is_started()
-    } else {
-        state.is_ready()
-    }
+    c.is_none_or(|c| p < c)
 }
 
 // Whether a server with these figures uses r.
 fn uses(f: Figures, r: u8) -> bool
     ensures { result ≡ uses_in f r }
 {
-    if f.period.0 == 0 {
-        return false;
-    }
-    let h = f.hold(r);
-    if 0 < h.0 { true } else { false }
+    f.is_present() && f.hold(r) != Length::NONE
 }
 
 // The period of a user of r, which is its ceiling if nobody else uses r.
 #[tactic(auto, unfolding(crate::specs::Steps::user_ceiling))]
-fn user_ceiling(f: Figures, r: u8) -> Ceiling
+fn user_ceiling(f: Figures, r: u8) -> Option<Length>
     ensures { result ≡ user_ceiling f r }
 {
-    if uses(f, r) {
-        let p = f.period;
-        Ceiling::Period(p)
-    } else {
-        Ceiling::Absent
-    }
+    uses(f, r).then_some(f.period)
 }
 
-impl Best {
-    // The best so far stays before a server with deadline d in a later slot.
-    #[tactic(auto, unfolding(crate::specs::Steps::keeps))]
-    fn keeps(self, d: Instant) -> bool
-        ensures { result ≡ keeps self d }
-    {
-        if !self.any {
-            return false;
-        }
-        let e = self.deadline;
-        if d.is_before(e) { false } else { true }
-    }
+// The best so far, if there is one, stays before a server with deadline d in a later slot.
+#[tactic(auto, unfolding(crate::specs::Steps::keeps))]
+fn keeps(best: Option<Best>, d: Instant) -> bool
+    ensures { result ≡ keeps best d }
+{
+    best.is_some_and(|b| b.deadline <= d)
 }
 
 impl Board {
-    // The better of the best so far and slot i.
-    #[tactic(auto, unfolding(crate::specs::Steps::better_of))]
-    fn better(self, started: bool, best: Best, i: usize) -> Best
-        requires { i < 16 }
-        ensures { result ≡ better_of self started best i }
+    // The first by deadline, then by slot, of those whose state passes the test.
+    #[tactic(auto, unfolding(crate::specs::Steps::better_of, crate::specs::Steps::best_of))]
+    fn first<F: Fn(State) -> bool>(self, stands: F) -> Option<Slot>
+        requires { F.IsAlwaysCallable stands }
+        ensures { (started : Bool) → Tests (F.post stands) started → result ≡ first self started }
     {
-        let l = self.lives[i];
-        let state = l.state;
-        let d = l.deadline;
-        if !stands(state, started) {
-            return best;
+        let mut best = None;
+        for (slot, life) in self.lives.iter().enumerate() {
+            if stands(life.state) && !keeps(best, life.deadline) {
+                best = Some(Best {
+                    slot,
+                    deadline: life.deadline,
+                });
+            }
         }
-        if best.keeps(d) {
-            return best;
-        }
-        Best {
-            any: true,
-            slot: i,
-            deadline: d,
-        }
-    }
-
-    #[tactic(auto, unfolding(crate::specs::Steps::best_of))]
-    fn best(self, started: bool) -> Best
-        ensures { result ≡ best_of self started 16 }
-    {
-        let mut best = Best {
-            any: false,
-            slot: 0,
-            deadline: Instant::BEGIN,
-        };
-        let mut i = 0;
-        while i < 16 {
-            best = self.better(started, best, i);
-            i += 1;
-        }
-        best
-    }
-
-    // The first of the ready servers, or of the started ones.
-    #[tactic(auto, using(crate::proofs::Search::no_slot, crate::proofs::First::first_is, crate::proofs::First::first_below))]
-    fn first(self, started: bool) -> Choice
-        ensures is { result ≡ first self started }
-        ensures low { (s : ℕ) → result ≡ Slot s → s < 16 }
-    {
-        let best = self.best(started);
-        if best.any {
-            Choice::Slot(best.slot)
-        } else {
-            Choice::Nobody
-        }
+        best.map(|best| Slot::new(best.slot))
     }
 
     // A resource's ceiling: the least period among servers that use it.
-    #[tactic(auto, using(crate::proofs::Lowest::lowest_next), unfolding(crate::specs::Board::lowest, crate::specs::Board::ceiling_of, crate::specs::Steps::user_ceiling))]
-    fn ceiling_of(self, r: u8) -> Ceiling
+    #[tactic(auto, using(crate::proofs::Lowest::lowest_begin, crate::proofs::Lowest::lowest_next), unfolding(crate::specs::Board::ceiling_of, crate::specs::Steps::user_ceiling))]
+    fn ceiling_of(self, r: u8) -> Option<Length>
         ensures { result ≡ ceiling_of self r }
     {
-        let table = self.table;
-        let mut c = Ceiling::Absent;
-        let mut x = 0;
-        while x < 16 {
-            let f = table[x];
-            c = c.lower(user_ceiling(f, r));
-            x += 1;
+        let mut c = None;
+        for f in self.table {
+            c = lesser(c, user_ceiling(f, r));
         }
         c
     }
 
-    // The ceiling with resource r counted, if the lowest bit says that it is locked.
-    #[tactic(auto, using(crate::proofs::Lowest::lower_absent), unfolding(crate::specs::Steps::ceiling_step))]
-    fn ceiling_with(self, c: Ceiling, bits: u8, r: u8) -> Ceiling
+    // The ceiling with resource r counted, if the lowest bit says that it is locked; apart from the walk, in whose loop its proof did not close.
+    #[tactic(auto, unfolding(crate::specs::Steps::ceiling_step))]
+    fn ceiling_with(self, c: Option<Length>, bits: u8, r: u8) -> Option<Length>
         ensures { result ≡ ceiling_step self c (eqb (bits % 2) 1) r }
     {
-        if bits % 2 == 1 {
-            c.lower(self.ceiling_of(r))
+        if bits & 1 == 1 {
+            lesser(c, self.ceiling_of(r))
         } else {
             c
         }
     }
 
     // The board's ceiling: a walk over the bits of the locked number, until none is left.
-    #[tactic(auto, using(crate::proofs::Lowest::half_left, crate::proofs::Lowest::some_left, resources::proofs::Laws::has_bit, resources::proofs::Laws::has_beyond, crate::proofs::Lowest::lowest_next, crate::proofs::Lowest::lowest_rest), unfolding(crate::specs::Board::lowest, crate::specs::Steps::ceiling_step, crate::specs::Board::ceiling))]
-    fn ceiling(self) -> Ceiling
+    #[tactic(auto, using(crate::proofs::Lowest::half_left, resources::proofs::Laws::has_bit, crate::proofs::Lowest::lowest_next), unfolding(crate::specs::Board::lowest, crate::specs::Steps::ceiling_step))]
+    fn ceiling(self) -> Option<Length>
         ensures { result ≡ ceiling self }
     {
         let mut bits = self.locked.0;
-        let mut c = Ceiling::Absent;
-        let mut r: u8 = 0;
+        let mut c = None;
+        let mut r = 0;
+        // The project's rule: the ceiling walks the set bits.
         while bits != 0 {
             c = self.ceiling_with(c, bits, r);
-            bits = bits / 2;
+            bits >>= 1;
             r += 1;
         }
         c
     }
 
-    // Whether slot f, the first, is named: it is started, or no ceiling keeps it.
+    // Whether the first of the ready servers is named, which stands in this slot: it is started, or no ceiling keeps it.
     #[tactic(auto, unfolding(crate::specs::Board::may_go))]
-    fn may_go(self, f: usize) -> bool
-        requires { f < 16 }
-        ensures { result ≡ may_go self f }
+    fn may_go(self, slot: Slot) -> bool
+        ensures { result ≡ may_go self slot }
     {
-        let l = self.lives[f];
-        let state = l.state;
-        if state.is_started() {
-            return true;
-        }
-        let figures = self.table[f];
-        let p = figures.period;
-        let c = self.ceiling();
-        c.clears(p)
+        self.life(slot).state.is_started() || clears(self.ceiling(), self.figures(slot).period)
     }
 
-    // Who is named, where slot f is the first of the ready servers.
-    #[tactic(auto, using(crate::proofs::Search::same_slot), unfolding(crate::specs::Board::named_by))]
-    fn named_by(self, f: usize) -> Choice
-        requires { f < 16 }
-        ensures is { result ≡ named_by self (Slot f) }
-        ensures low { (s : ℕ) → result ≡ Slot s → s < 16 }
+    // Who is named, where the first of the ready servers stands in this slot.
+    #[tactic(auto, unfolding(crate::specs::Board::named_by))]
+    fn named_by(self, slot: Slot) -> Option<Slot>
+        ensures { result ≡ named_by self (Some slot) }
     {
-        if self.may_go(f) {
-            Choice::Slot(f)
+        if self.may_go(slot) {
+            Some(slot)
         } else {
-            self.first(true)
+            self.first(State::is_started)
         }
     }
 
-    #[tactic(auto, using(crate::proofs::Search::no_slot), unfolding(crate::specs::Board::named, crate::specs::Board::named_by))]
-    pub fn named(self) -> Choice
-        ensures is { result ≡ named self }
-        ensures low { (s : ℕ) → result ≡ Slot s → s < 16 }
+    // Who is named, if anybody is.
+    #[tactic(auto, unfolding(crate::specs::Board::named, crate::specs::Board::named_by))]
+    pub(crate) fn named_slot(self) -> Option<Slot>
+        ensures { result ≡ named self }
     {
-        let first = self.first(false);
-        match first {
-            Choice::Nobody => Choice::Nobody,
-            Choice::Slot(f) => self.named_by(f),
-        }
+        self.first(State::is_ready)
+            .and_then(|slot| self.named_by(slot))
+    }
+
+    // The same, as a number.
+    pub fn named(self) -> Option<usize>
+        ensures is { result ≡ named self }
+        ensures low { (s : ℕ) → result ≡ Some s → s < 16 }
+    {
+        self.named_slot().map(Slot::index)
     }
 }

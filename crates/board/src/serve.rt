@@ -1,32 +1,27 @@
 // The calls of one server: arrive, done, lock, unlock.
-ghost use Rattle.std.specs.Prelude.{◌≡◌, ◌<◌};
+// Between two checks each has a function of its own, as the definitions have (`done_in`, `lock_ready`, ..): so their matches of the state stand in each.
+ghost use Rattle.std.specs.Prelude.{◌≡◌};
 ghost use Rattle.timing.specs.declared.State.TheVariants.{Idle};
 ghost use Rattle.timing.specs.Timing.{asked};
 ghost use Rattle.board.specs.Board.{figures_at, life_at, named, is_slot};
-ghost use Rattle.board.specs.Calls.{standing, answer_to, arrived_in, arrives, rested, done_with, done_ready, done_in, done_by, granted, locked_by, locking, lock_free, lock_with, lock_ready, lock_in, locks, unlocking, unlock_with, unlock_ready, unlock_in, unlocks};
+ghost use Rattle.board.specs.Calls.{standing, answer_to, arrived_in, arrives, rested, done_with, done_ready, done_in, done_by, locked_by, locking, lock_free, lock_with, lock_ready, lock_in, locks, unlocking, unlock_with, unlock_ready, unlock_in, unlocks};
 
-use crate::{Answer, Board, Outcome};
+use crate::{Answer, Board, Outcome, Slot};
+use quantity::Length;
+use refusals::Refusal;
 use resources::Set;
-use timing::{Figures, Life, Lock, Ruled, Ruling, State};
+use timing::{Lock, Ruling, State};
 
 // The rule's answer.
-fn answer_to(ruling: Ruling) -> Answer
-    ensures { result ≡ answer_to ruling }
-{
-    match ruling {
-        Ruling::Done => Answer::Done(0),
-        Ruling::Suspended(t) => Answer::Suspended(t),
-        Ruling::Renewed => Answer::Renewed,
-    }
-}
+impl From<Ruling> for Answer {
+    ghost from_gives = { λ ruling answer. answer ≡ answer_to ruling };
 
-fn is_granted(ruling: Ruling) -> bool
-    ensures { result ≡ granted ruling }
-{
-    match ruling {
-        Ruling::Done => true,
-        Ruling::Suspended(_) => false,
-        Ruling::Renewed => false,
+    fn from(ruling: Ruling) -> Answer {
+        match ruling {
+            Ruling::Done => Answer::Done(0),
+            Ruling::Suspended(t) => Answer::Suspended(t),
+            Ruling::Renewed => Answer::Renewed,
+        }
     }
 }
 
@@ -35,7 +30,7 @@ fn is_granted(ruling: Ruling) -> bool
 fn locked_by(locked: Set, r: u8, ruling: Ruling) -> Set
     ensures { result ≡ locked_by locked r ruling }
 {
-    if is_granted(ruling) {
+    if matches!(ruling, Ruling::Done) {
         locked.insert(r)
     } else {
         locked
@@ -43,66 +38,43 @@ fn locked_by(locked: Set, r: u8, ruling: Ruling) -> Set
 }
 
 impl Board {
-    // The checks that the calls of a server share: 0 where they pass, or the number of the refusal.
+    // The checks that the calls of a server share, and its slot where they pass.
     #[tactic(auto, unfolding(crate::specs::Calls::standing))]
-    fn standing(self, slot: u64) -> u8
-        ensures is { result ≡ standing self slot }
-        ensures low { result ≡ 0 → slot < 16 }
+    fn standing(self, number: u64) -> Result<Slot, Refusal>
+        ensures { result ≡ standing self number }
     {
         if !self.running {
-            return 1;
+            return Err(Refusal::WrongPhase);
         }
-        if 16 <= slot {
-            return 8;
+        let slot = Slot::of(number).ok_or(Refusal::NotInTable)?;
+        if !self.figures(slot).is_present() {
+            return Err(Refusal::NotInTable);
         }
-        let i = slot as usize;
-        let f = self.table[i];
-        if !f.is_present() {
-            return 8;
+        if self.life(slot).state.is_stopped() {
+            return Err(Refusal::ServerStopped);
         }
-        let l = self.lives[i];
-        let state = l.state;
-        if state.is_stopped() {
-            return 16;
-        }
-        0
+        Ok(slot)
     }
 
     // The idle server in a slot arrives.
     #[tactic(auto, unfolding(crate::specs::Calls::arrived_in))]
-    fn arrive_idle(self, i: usize) -> Outcome
-        requires { i < 16 }
-        ensures { result ≡ arrived_in Idle self i }
+    fn arrive_idle(self, slot: Slot) -> Outcome
+        ensures { result ≡ arrived_in Idle self slot }
     {
-        let f = self.table[i];
-        let l = self.lives[i];
-        let ruled = l.arrive(f, self.clock);
-        let life = ruled.life;
-        let ruling = ruled.ruling;
-        let b = self.with_life(i, life);
-        let a = answer_to(ruling);
+        let ruled = self.life(slot).arrive(self.figures(slot), self.clock);
         Outcome {
-            board: b,
-            answer: a,
+            board: self.with_life(slot, ruled.life),
+            answer: Answer::from(ruled.ruling),
         }
     }
 
     #[tactic(auto, unfolding(crate::specs::Calls::arrived_in))]
-    fn arrive_in(self, i: usize) -> Outcome
-        requires { i < 16 }
-        ensures { result ≡ arrived_in (life_at self i).state self i }
+    fn arrive_in(self, slot: Slot) -> Outcome
+        ensures { result ≡ arrived_in (life_at self slot).state self slot }
     {
-        let l = self.lives[i];
-        let state = l.state;
-        match state {
-            State::Idle => self.arrive_idle(i),
-            State::Ready {
-                started: _,
-                lock: _,
-            } => self.refuse(15),
-            State::Suspended(_) => self.refuse(15),
-            State::Spent => self.refuse(15),
-            State::Stopped => self.refuse(15),
+        match self.life(slot).state {
+            State::Idle => self.arrive_idle(slot),
+            _ => self.refuse(Refusal::NotIdle),
         }
     }
 
@@ -110,70 +82,58 @@ impl Board {
     pub fn arrive(self, slot: u64) -> Outcome
         ensures { result ≡ arrives self slot }
     {
-        let n = self.standing(slot);
-        if n != 0 {
-            return self.refuse(n);
+        match self.standing(slot) {
+            Ok(slot) => self.arrive_in(slot),
+            Err(why) => self.refuse(why),
         }
-        self.arrive_in(slot as usize)
     }
 
-    fn is_named(self, i: usize) -> bool
-        ensures { result ≡ is_slot (named self) i }
+    fn is_named(self, slot: Slot) -> bool
+        ensures { result ≡ is_slot (named self) slot }
     {
-        let m = self.named();
-        m.is_slot(i)
+        self.named() == Some(slot.index())
     }
 
     // The server in a slot becomes idle and keeps its budget and deadline.
     #[tactic(auto, unfolding(crate::specs::Calls::rested))]
-    fn rest(self, i: usize) -> Outcome
-        requires { i < 16 }
-        ensures { result ≡ rested self i }
+    fn rest(self, slot: Slot) -> Outcome
+        ensures { result ≡ rested self slot }
     {
-        let l = self.lives[i];
-        let idle = l.in_state(State::Idle);
-        let b = self.with_life(i, idle);
+        let idle = self.life(slot).in_state(State::Idle);
         Outcome {
-            board: b,
+            board: self.with_life(slot, idle),
             answer: Answer::Done(0),
         }
     }
 
     #[tactic(auto, unfolding(crate::specs::Calls::done_with))]
-    fn done_with(self, lock: Lock, i: usize) -> Outcome
-        requires { i < 16 }
-        ensures { result ≡ done_with lock self i }
+    fn done_with(self, lock: Lock, slot: Slot) -> Outcome
+        ensures { result ≡ done_with lock self slot }
     {
         match lock {
-            Lock::Free => self.rest(i),
-            Lock::On(_, _) => self.refuse(11),
+            Lock::Free => self.rest(slot),
+            Lock::On(..) => self.refuse(Refusal::HoldsLock),
         }
     }
 
     #[tactic(auto, unfolding(crate::specs::Calls::done_ready))]
-    fn done_ready(self, lock: Lock, i: usize) -> Outcome
-        requires { i < 16 }
-        ensures { result ≡ done_ready lock self i }
+    fn done_ready(self, lock: Lock, slot: Slot) -> Outcome
+        ensures { result ≡ done_ready lock self slot }
     {
-        if !self.is_named(i) {
-            return self.refuse(9);
+        if !self.is_named(slot) {
+            return self.refuse(Refusal::NotNamed);
         }
-        self.done_with(lock, i)
+        self.done_with(lock, slot)
     }
 
     #[tactic(auto, unfolding(crate::specs::Calls::done_in))]
-    fn done_in(self, i: usize) -> Outcome
-        requires { i < 16 }
-        ensures { result ≡ done_in (life_at self i).state self i }
+    fn done_in(self, slot: Slot) -> Outcome
+        ensures { result ≡ done_in (life_at self slot).state self slot }
     {
-        let l = self.lives[i];
-        let state = l.state;
-        match state {
-            State::Ready { started: _, lock } => self.done_ready(lock, i),
-            State::Spent => self.rest(i),
-            State::Idle => self.refuse(9),
-            State::Suspended(_) => self.refuse(9),
-            State::Stopped => self.refuse(9),
+        match self.life(slot).state {
+            State::Ready { lock, .. } => self.done_ready(lock, slot),
+            State::Spent => self.rest(slot),
+            _ => self.refuse(Refusal::NotNamed),
         }
     }
 
@@ -181,91 +141,71 @@ impl Board {
     pub fn done(self, slot: u64) -> Outcome
         ensures { result ≡ done_by self slot }
     {
-        let n = self.standing(slot);
-        if n != 0 {
-            return self.refuse(n);
+        match self.standing(slot) {
+            Ok(slot) => self.done_in(slot),
+            Err(why) => self.refuse(why),
         }
-        self.done_in(slot as usize)
     }
 
     // The lock's budget rule, and the bit it sets.
     #[tactic(auto, unfolding(crate::specs::Calls::locking))]
-    fn lock_by(self, i: usize, r: u8) -> Outcome
-        requires { i < 16 }
-        ensures { result ≡ locking self i r (asked (figures_at self i) (life_at self i) r self.clock) }
+    fn lock_by(self, slot: Slot, r: u8) -> Outcome
+        ensures { result ≡ locking self slot r (asked (figures_at self slot) (life_at self slot) r self.clock) }
     {
-        let f = self.table[i];
-        let l = self.lives[i];
-        let ruled = l.lock(f, r, self.clock);
-        let life = ruled.life;
-        let ruling = ruled.ruling;
-        let locked = locked_by(self.locked, r, ruling);
-        let b = self.with_sets(i, life, locked, self.closed);
-        let a = answer_to(ruling);
+        let ruled = self.life(slot).lock(self.figures(slot), r, self.clock);
+        let locked = locked_by(self.locked, r, ruled.ruling);
         Outcome {
-            board: b,
-            answer: a,
+            board: self.with_sets(slot, ruled.life, locked, self.closed),
+            answer: Answer::from(ruled.ruling),
         }
     }
 
     #[tactic(auto, using(timing::specs::Timing::Laws::hold_outside), unfolding(crate::specs::Calls::lock_free))]
-    fn lock_free(self, i: usize, r: u64) -> Outcome
-        requires { i < 16 }
-        ensures { result ≡ lock_free self i r }
+    fn lock_free(self, slot: Slot, resource: u64) -> Outcome
+        ensures { result ≡ lock_free self slot resource }
     {
-        if 7 < r {
-            return self.refuse(10);
+        let Ok(r) = u8::try_from(resource) else {
+            return self.refuse(Refusal::NotUsed);
+        };
+        if self.figures(slot).hold(r) == Length::NONE {
+            return self.refuse(Refusal::NotUsed);
         }
-        let q = r as u8;
-        let f = self.table[i];
-        let h = f.hold(q);
-        if h.0 == 0 {
-            return self.refuse(10);
+        if self.closed.contains(r) {
+            return self.refuse(Refusal::ResourceClosed);
         }
-        if self.closed.contains(q) {
-            return self.refuse(13);
+        if self.locked.contains(r) {
+            return self.refuse(Refusal::ResourceLocked);
         }
-        if self.locked.contains(q) {
-            return self.refuse(14);
-        }
-        self.lock_by(i, q)
+        self.lock_by(slot, r)
     }
 
     #[tactic(auto, unfolding(crate::specs::Calls::lock_with))]
-    fn lock_with(self, lock: Lock, i: usize, r: u64) -> Outcome
-        requires { i < 16 }
-        ensures { result ≡ lock_with lock self i r }
+    fn lock_with(self, lock: Lock, slot: Slot, resource: u64) -> Outcome
+        ensures { result ≡ lock_with lock self slot resource }
     {
         match lock {
-            Lock::Free => self.lock_free(i, r),
-            Lock::On(_, _) => self.refuse(11),
+            Lock::Free => self.lock_free(slot, resource),
+            Lock::On(..) => self.refuse(Refusal::HoldsLock),
         }
     }
 
     #[tactic(auto, unfolding(crate::specs::Calls::lock_ready))]
-    fn lock_ready(self, lock: Lock, i: usize, r: u64) -> Outcome
-        requires { i < 16 }
-        ensures { result ≡ lock_ready lock self i r }
+    fn lock_ready(self, lock: Lock, slot: Slot, resource: u64) -> Outcome
+        ensures { result ≡ lock_ready lock self slot resource }
     {
-        if !self.is_named(i) {
-            return self.refuse(9);
+        if !self.is_named(slot) {
+            return self.refuse(Refusal::NotNamed);
         }
-        self.lock_with(lock, i, r)
+        self.lock_with(lock, slot, resource)
     }
 
     #[tactic(auto, unfolding(crate::specs::Calls::lock_in))]
-    fn lock_in(self, i: usize, r: u64) -> Outcome
-        requires { i < 16 }
-        ensures { result ≡ lock_in (life_at self i).state self i r }
+    fn lock_in(self, slot: Slot, resource: u64) -> Outcome
+        ensures { result ≡ lock_in (life_at self slot).state self slot resource }
     {
-        let l = self.lives[i];
-        let state = l.state;
-        match state {
-            State::Ready { started: _, lock } => self.lock_ready(lock, i, r),
-            State::Idle => self.refuse(9),
-            State::Suspended(_) => self.refuse(9),
-            State::Spent => self.refuse(9),
-            State::Stopped => self.refuse(9),
+        match self.life(slot).state {
+            State::Ready { lock, .. } => self.lock_ready(lock, slot, resource),
+            _ => self.refuse(Refusal::NotNamed),
         }
     }
 
@@ -273,69 +213,56 @@ impl Board {
     pub fn lock(self, slot: u64, resource: u64) -> Outcome
         ensures { result ≡ locks self slot resource }
     {
-        let n = self.standing(slot);
-        if n != 0 {
-            return self.refuse(n);
+        match self.standing(slot) {
+            Ok(slot) => self.lock_in(slot, resource),
+            Err(why) => self.refuse(why),
         }
-        self.lock_in(slot as usize, resource)
     }
 
     // The lock is given back, and the server may be spent.
     #[tactic(auto, unfolding(crate::specs::Calls::unlocking))]
-    fn unlock_by(self, i: usize, started: bool, r: u8) -> Outcome
-        requires { i < 16 }
-        ensures { result ≡ unlocking self i started r }
+    fn unlock_by(self, slot: Slot, started: bool, r: u8) -> Outcome
+        ensures { result ≡ unlocking self slot started r }
     {
-        let f = self.table[i];
-        let l = self.lives[i];
-        let free = l.in_state(State::Ready {
+        let free = self.life(slot).in_state(State::Ready {
             started,
             lock: Lock::Free,
         });
-        let life = free.settle(f, self.clock);
+        let life = free.settle(self.figures(slot), self.clock);
         let locked = self.locked.remove(r);
-        let b = self.with_sets(i, life, locked, self.closed);
         Outcome {
-            board: b,
+            board: self.with_sets(slot, life, locked, self.closed),
             answer: Answer::Done(0),
         }
     }
 
     #[tactic(auto, unfolding(crate::specs::Calls::unlock_with))]
-    fn unlock_with(self, started: bool, lock: Lock, i: usize) -> Outcome
-        requires { i < 16 }
-        ensures { result ≡ unlock_with started lock self i }
+    fn unlock_with(self, started: bool, lock: Lock, slot: Slot) -> Outcome
+        ensures { result ≡ unlock_with started lock self slot }
     {
         match lock {
-            Lock::Free => self.refuse(12),
-            Lock::On(r, _) => self.unlock_by(i, started, r),
+            Lock::Free => self.refuse(Refusal::HoldsNone),
+            Lock::On(r, _) => self.unlock_by(slot, started, r),
         }
     }
 
     #[tactic(auto, unfolding(crate::specs::Calls::unlock_ready))]
-    fn unlock_ready(self, started: bool, lock: Lock, i: usize) -> Outcome
-        requires { i < 16 }
-        ensures { result ≡ unlock_ready started lock self i }
+    fn unlock_ready(self, started: bool, lock: Lock, slot: Slot) -> Outcome
+        ensures { result ≡ unlock_ready started lock self slot }
     {
-        if !self.is_named(i) {
-            return self.refuse(9);
+        if !self.is_named(slot) {
+            return self.refuse(Refusal::NotNamed);
         }
-        self.unlock_with(started, lock, i)
+        self.unlock_with(started, lock, slot)
     }
 
     #[tactic(auto, unfolding(crate::specs::Calls::unlock_in))]
-    fn unlock_in(self, i: usize) -> Outcome
-        requires { i < 16 }
-        ensures { result ≡ unlock_in (life_at self i).state self i }
+    fn unlock_in(self, slot: Slot) -> Outcome
+        ensures { result ≡ unlock_in (life_at self slot).state self slot }
     {
-        let l = self.lives[i];
-        let state = l.state;
-        match state {
-            State::Ready { started, lock } => self.unlock_ready(started, lock, i),
-            State::Idle => self.refuse(9),
-            State::Suspended(_) => self.refuse(9),
-            State::Spent => self.refuse(9),
-            State::Stopped => self.refuse(9),
+        match self.life(slot).state {
+            State::Ready { started, lock } => self.unlock_ready(started, lock, slot),
+            _ => self.refuse(Refusal::NotNamed),
         }
     }
 
@@ -343,10 +270,9 @@ impl Board {
     pub fn unlock(self, slot: u64) -> Outcome
         ensures { result ≡ unlocks self slot }
     {
-        let n = self.standing(slot);
-        if n != 0 {
-            return self.refuse(n);
+        match self.standing(slot) {
+            Ok(slot) => self.unlock_in(slot),
+            Err(why) => self.refuse(why),
         }
-        self.unlock_in(slot as usize)
     }
 }

@@ -14,6 +14,9 @@ use Rattle.timing.specs.Timing.{hold, tr, arrived, asked, lacking}
 use Rattle.timing.specs.Timing.Text.{tr_is, replenished_is, arrived_is, asked_is, largest_hold_is}
 use Rattle.admission.specs.Admission.{figures_of, judged, placed, period_fits, budget_fits, holds_fit, nobody}
 use Rattle.admission.specs.Admission.Text.{load_is, used_is, longest_wait_is, passes_is, judged_is}
+use Rattle.std.specs.Prelude.{Result, Ok, Err}
+use Rattle.refusals.specs.declared.Refusal.{Refusal}
+use Rattle.refusals.specs.Refusals.{number_of}
 use Rattle.timing.specs.declared.Ruling.{Ruling}
 use Rattle.timing.specs.declared.Ruling.TheVariants as ruling
 
@@ -32,8 +35,14 @@ with_x = X ∷ replicate 15 nobody
 abbrev life : ℕ → ℕ → Life
 life q d = record { state = Ready true Free; left = ticks q; deadline = at d }
 
+-- what a judgement says: 0 admitted, or the refusal's number
+abbrev number : Result Figures Refusal → ℕ
+number (Ok f) = 0
+number (Err why) = number_of why
+
+-- of a second server beside X
 abbrev second : ℕ → ℕ → ℕ → ℕ
-second p q h = (judged with_x 1 60 p q (zero_only h)).number
+second p q h = number (judged with_x 1 60 p q (zero_only h))
 
 -- what a ruling says: 0 done, the instant until which it is suspended, 21 renewed
 abbrev says : Ruling → ℕ

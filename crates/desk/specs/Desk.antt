@@ -1,10 +1,9 @@
 -- What the bench program answers to a line, and what it shows of the board (document 01, "The bench program").
-use Rattle.std.specs.Prelude.{ℕ, not, List}
+use Rattle.std.specs.Prelude.{ℕ, not, None, List}
 use Rattle.terms.specs.Words.{pick}
+use Rattle.refusals.specs.declared.Refusal.TheVariants.{NotWellFormed}
 use Rattle.board.specs.declared.Board.{Board}
 use Rattle.board.specs.declared.Outcome.{Outcome}
-use Rattle.board.specs.declared.Choice.{Choice}
-use Rattle.board.specs.declared.Choice.TheVariants.{Nobody, Slot}
 use Rattle.board.specs.Board.{named, number_of, value_of}
 use Rattle.board.specs.Calls.{refuse, opened, admitted, started, arrives, done_by, locks, unlocks}
 use Rattle.board.specs.Run.{runs}
@@ -24,7 +23,7 @@ called b (call.Done i) hs = done_by b i
 called b (call.Lock i r) hs = locks b i r
 called b (call.Unlock i) hs = unlocks b i
 called b (call.Run n) hs = runs b n
-called b call.Malformed hs = refuse b 19
+called b call.Malformed hs = refuse b NotWellFormed
 
 -- the next board, and the answer's number and value
 unfoldable pub told : Outcome → Told
@@ -33,11 +32,6 @@ told o = record { board = o.board; number = number_of o.answer; value = value_of
 unfoldable pub served : Board → Line → Told
 served b l = told (called b l.call l.holds)
 
--- 16 stands for nobody
-abbrev pub slot_shown : Choice → ℕ
-slot_shown Nobody = 16
-slot_shown (Slot i) = i
-
 -- before start the clock is 0 and nobody is named
 unfoldable pub shown : Board → Shown
-shown b = pick (not b.running) (record { clock = 0; named = 16 }) (record { clock = b.clock.0; named = slot_shown (named b) })
+shown b = pick (not b.running) (record { clock = 0; named = None }) (record { clock = b.clock.0; named = named b })

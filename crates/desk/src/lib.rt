@@ -2,12 +2,13 @@
 #![tactic(auto)]
 
 ghost use Rattle.std.specs.Prelude.{◌≡◌};
-ghost use Rattle.desk.specs.Desk.{called, told, served, slot_shown, shown};
+ghost use Rattle.desk.specs.Desk.{called, told, served, shown};
 
-use board::{Answer, Board, Choice, Outcome};
+use board::{Answer, Board, Outcome};
 use lines::{Call, Line};
+use refusals::Refusal;
 
-// The next board, and the answer's number and value.
+// The next board, and the answer's number, as document 01 numbers it and the program prints it, and value.
 #[derive(Clone, Copy)]
 pub struct Told {
     pub board: Board,
@@ -15,13 +16,14 @@ pub struct Told {
     pub value: u64,
 }
 
-// The clock and the named slot, 16 for nobody.
+// The clock and the named slot.
 #[derive(Clone, Copy)]
 pub struct Shown {
     pub clock: u64,
-    pub named: u64,
+    pub named: Option<usize>,
 }
 
+// A case of `Call` is a call with its numbers: a match is plainer than a table of functions of one, two or no arguments.
 #[tactic(auto, unfolding(crate::specs::Desk::called))]
 fn make(board: Board, call: Call, holds: [u64; 8]) -> Outcome
     ensures { result ≡ called board call holds }
@@ -37,23 +39,21 @@ fn make(board: Board, call: Call, holds: [u64; 8]) -> Outcome
         Call::Run(ticks) => board.run(ticks),
         Call::Malformed => Outcome {
             board,
-            answer: Answer::Refused(19),
+            answer: Answer::Refused(Refusal::NotWellFormed),
         },
     }
 }
 
-#[tactic(auto, unfolding(crate::specs::Desk::told))]
-fn tell(o: Outcome) -> Told
-    ensures { result ≡ told o }
-{
-    let board = o.board;
-    let answer = o.answer;
-    let number = answer.number();
-    let value = answer.value();
-    Told {
-        board,
-        number,
-        value,
+impl From<Outcome> for Told {
+    ghost from_gives = { λ outcome t. t ≡ told outcome };
+
+    #[tactic(auto, unfolding(crate::specs::Desk::told))]
+    fn from(outcome: Outcome) -> Told {
+        Told {
+            board: outcome.board,
+            number: outcome.answer.number(),
+            value: outcome.answer.value(),
+        }
     }
 }
 
@@ -62,19 +62,7 @@ fn tell(o: Outcome) -> Told
 pub fn serve(board: Board, line: Line) -> Told
     ensures { result ≡ served board line }
 {
-    let call = line.call;
-    let holds = line.holds;
-    let o = make(board, call, holds);
-    tell(o)
-}
-
-fn slot_shown(c: Choice) -> u64
-    ensures { result ≡ slot_shown c }
-{
-    match c {
-        Choice::Nobody => 16,
-        Choice::Slot(i) => i as u64,
-    }
+    Told::from(make(board, line.call, line.holds))
 }
 
 // What an answer's line begins with.
@@ -85,10 +73,11 @@ pub fn show(board: Board) -> Shown
     if !board.running {
         return Shown {
             clock: 0,
-            named: 16,
+            named: None,
         };
     }
-    let clock = board.clock.number();
-    let named = slot_shown(board.named());
-    Shown { clock, named }
+    Shown {
+        clock: u64::from(board.clock),
+        named: board.named(),
+    }
 }

@@ -13,23 +13,18 @@ use Rattle.terms.specs.Words.{pick}
 use Rattle.terms.proofs.Tests.{not_both}
 use Rattle.fields.specs.Numbers.{Bytes}
 use Rattle.fields.specs.Fields.{field_of, head_at}
-use Rattle.fields.specs.Form.{servers_of, Begun, FirstBad, no_frame, no_field, behind_last, not_in_form, place_at, form_from, form_with, frame_then}
-use Rattle.fields.specs.declared.Form.{Form}
+use Rattle.std.specs.Prelude.{Some, None, Ok, Err}
+use Rattle.fields.specs.Form.{Form, Place, server, last, bad, servers_of, Begun, FirstBad, no_frame, no_field, behind_last, not_in_form, place_at, form_from, form_with, frame_then}
 use Rattle.fields.specs.declared.Head.{Head}
 use Rattle.fields.specs.declared.Head.TheVariants.{Missing, Cut, Field}
-use Rattle.fields.specs.declared.Place.{Place}
-use Rattle.fields.specs.declared.Place.TheVariants.{Server, Last, Bad}
 use Rattle.fields.proofs.Heads.{field_length, head_of_field, field_of_head, missing_end}
-use Rattle.fields.proofs.Places.{bad_at, server_end, from_server, from_last, from_bad}
+use Rattle.fields.proofs.Places.{same_offset, bad_at, server_end, from_server, from_last, from_bad}
 use Rattle.fields.proofs.Forms.{servers_append, server_stands, closing_stands, server_field, last_field, form_on, in_or_not, each_last}
 
 -- the closing field is bad at no offset of its own
-not_here : (t : Bool) (o : ℕ) → pick t (Bad (o + 3)) Last ≡ Bad o → ⊥
-not_here true o e = let same : o + 3 ≡ o = cc in omega arith
-not_here false o e = let z : ◌≡◌ {A = ℕ} 0 1 = cc in omega arith
-
-same_offset : {a o : ℕ} → not_in_form a ≡ not_in_form o → a ≡ o
-same_offset e = ap (λ (f : Form). f.offset) e
+not_here : (t : Bool) (o : ℕ) → pick t (bad (o + 3)) last ≡ bad o → ⊥
+not_here true o e = let same : o + 3 ≡ o = same_offset e in omega arith
+not_here false o e = cc
 
 -- the tests that found the frame's field bad, or led past it
 frame_bad : (f : Form) {o : ℕ} (p q : Bool) → pick (not p) (not_in_form 0) (pick (not q) (not_in_form 0) f) ≡ not_in_form o
@@ -41,7 +36,7 @@ frame_bad f false q e = inl (same_offset e, λ both. not_both both.0 refl)
 module _ (tag : ℕ) (fits : List ℕ → Bool) (other : tag ≡ 255 → ⊥) (small : (body : List ℕ) → fits body ≡ true → length body < 65536)
     (s : List ℕ) (h : Bytes s) where
   -- one more server's field
-  begun_on : {at end : ℕ} → Begun tag fits s at → place_at tag fits s at ≡ Server end → Begun tag fits s end
+  begun_on : {at end : ℕ} → Begun tag fits s at → place_at tag fits s at ≡ server end → Begun tag fits s end
   unfolding servers_of
   begun_on {at} {end} b p =
       let (body, fit, ends, e) = server_field tag fits s h at p in
@@ -60,7 +55,7 @@ module _ (tag : ℕ) (fits : List ℕ → Bool) (other : tag ≡ 255 → ⊥) (s
       }
 
   -- a bad field after good ones is the first
-  bad_here : {at o : ℕ} → Begun tag fits s at → place_at tag fits s at ≡ Bad o → FirstBad tag fits s o
+  bad_here : {at o : ℕ} → Begun tag fits s at → place_at tag fits s at ≡ bad o → FirstBad tag fits s o
   bad_here {at} {o} b p = ⊎_elim here closing (bad_at tag fits s at b.within p)
     where
       here : at ≡ o → FirstBad tag fits s o
@@ -86,9 +81,9 @@ module _ (tag : ℕ) (fits : List ℕ → Bool) (other : tag ≡ 255 → ⊥) (s
       go : (p : Place) → place_at tag fits s at ≡ p
           → ((at n o : ℕ) → length s < left * 3 + at → Begun tag fits s at → form_from tag fits s left at n ≡ not_in_form o → FirstBad tag fits s o)
           → FirstBad tag fits s o
-      go (Bad a) p onward = bad_here b (p ∙ ap Bad (same_offset (sym (from_bad tag fits s left at n p) ∙ e)))
-      go Last p onward = absurd (in_or_not (sym (sym (from_last tag fits s left at n p) ∙ e)))
-      go (Server end) p onward =
+      go (Err a) p onward = bad_here b (p ∙ ap bad (same_offset (sym (from_bad tag fits s left at n {o = a.offset} p) ∙ e)))
+      go (Ok None) p onward = absurd (in_or_not (sym (sym (from_last tag fits s left at n p) ∙ e)))
+      go (Ok (Some end)) p onward =
           onward end (n + 1) o (omega (arith, server_end tag fits s at p)) (begun_on b p) (sym (from_server tag fits s left at n p) ∙ e)
 
   -- what the front of a sheet says of its first head
@@ -148,14 +143,14 @@ module _ (tag : ℕ) (fits : List ℕ → Bool) (other : tag ≡ 255 → ⊥) (s
 
   -- where neither a server's nor the closing field stands, a field is bad
   bad_place : (at : ℕ) → at ≤ length s → ((body behind : List ℕ) → fits body ≡ true → drop at s ≡ field_of tag body ++ behind → ⊥)
-      → ((behind : List ℕ) → drop at s ≡ field_of 255 [] ++ behind → ⊥) → place_at tag fits s at ≡ Bad at
+      → ((behind : List ℕ) → drop at s ≡ field_of 255 [] ++ behind → ⊥) → place_at tag fits s at ≡ bad at
   bad_place at within no-server no_last = go (place_at tag fits s at) refl
     where
-      go : (p : Place) → place_at tag fits s at ≡ p → place_at tag fits s at ≡ Bad at
-      go (Server end) p = let (body, fit, ends, e) = server_field tag fits s h at p in absurd (no-server body (drop end s) fit e)
-      go Last p = absurd (no_last [] (last_field tag fits s h at p ∙ sym (append-nil (field_of 255 []))))
-      go (Bad o) p =
-          ⊎_elim (λ same. p ∙ ap Bad (sym same))
+      go : (p : Place) → place_at tag fits s at ≡ p → place_at tag fits s at ≡ bad at
+      go (Ok (Some end)) p = let (body, fit, ends, e) = server_field tag fits s h at p in absurd (no-server body (drop end s) fit e)
+      go (Ok None) p = absurd (no_last [] (last_field tag fits s h at p ∙ sym (append-nil (field_of 255 []))))
+      go (Err o) p =
+          ⊎_elim (λ same. p ∙ ap bad (sym same))
           (λ (start, head, more, same). absurd (no_last (drop (start + 0) s) (field_of_head s at 255 start 0 h head).bytes))
           (bad_at tag fits s at within p)
 
@@ -187,7 +182,7 @@ module _ (tag : ℕ) (fits : List ℕ → Bool) (other : tag ≡ 255 → ⊥) (s
       e ∙ from_bad tag fits s left o (length b.bodies) (bad_place o b.within no-server no_last)
   bad_first {o} (behind_last last b ends more e) =
       let (left, walk) = begun_walk b in
-      let place : place_at tag fits s last ≡ Bad (last + 3) =
+      let place : place_at tag fits s last ≡ bad (last + 3) =
       closing_stands tag fits other small s last (drop o s) e ∙ simp (lt-ltb (last + 3) (length s) (omega arith)) in
       walk ∙ from_bad tag fits s left last (length b.bodies) place ∙ ap not_in_form ends
   bad_first {o} (no_frame z none) = front_bad z none

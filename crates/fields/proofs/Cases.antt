@@ -1,12 +1,13 @@
 -- Sheets of the old form with the answers that the document's words give them, computed: what is missing, wrong, cut off or behind the end.
 use Prim.Native.Nat.{ℕ}
-use mathlib.Core.Bool.{Bool, not, ◌&&◌}
+use mathlib.Core.Bool.{Bool, false, ◌&&◌}
 use mathlib.Core.List.{List, [], ◌∷◌, ◌++◌}
 use lib.ListN.{replicate, take}
 use lib.Dec.{T, eqb}
 use Rattle.fields.specs.Numbers.{number_of, bytes_of}
 use Rattle.fields.specs.Fields.{field_of, length_at, head_at}
-use Rattle.fields.specs.Form.{servers_of, sheet_of, place_of, place_at, form_by, form_from, frame_then, form_with}
+use Rattle.std.specs.Prelude.{Ok, Err}
+use Rattle.fields.specs.Form.{Form, servers_of, sheet_of, place_of, place_at, form_by, form_from, frame_then, form_with}
 use Rattle.fields.specs.Old.{old_body, form_of}
 
 abbrev frame : List ℕ
@@ -18,11 +19,19 @@ server size = field_of 2 (replicate size 3)
 abbrev sheet : ℕ → List ℕ
 sheet n = sheet_of 2 (0 ∷ 0 ∷ 0 ∷ 60 ∷ []) (replicate n (replicate 40 3))
 
+abbrev is_good : Form → ℕ → Bool
+is_good (Ok m) n = eqb m n
+is_good (Err e) n = false
+
+abbrev is_bad : Form → ℕ → Bool
+is_bad (Ok m) at = false
+is_bad (Err e) at = eqb e.offset at
+
 abbrev good : List ℕ → ℕ → Bool
-good s n = (form_of s).good && eqb (form_of s).servers n
+good s n = is_good (form_of s) n
 
 abbrev bad : List ℕ → ℕ → Bool
-bad s at = not (form_of s).good && eqb (form_of s).offset at
+bad s at = is_bad (form_of s) at
 
 -- in form: no server, one, and seventeen
 abbrev in_form_lem : Bool

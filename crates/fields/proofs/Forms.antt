@@ -1,7 +1,6 @@
 -- A sheet passes the walk exactly if it is the frame's field, servers' fields that fit, and the closing field: by going field by field.
 use Prim.Native.Nat.{ℕ, zero, suc, ◌+◌, ◌-◌, ◌*◌, ◌<◌, ◌≤◌, suc-le-suc}
 use mathlib.Core.Path.{◌≡◌, refl, sym, ap, ◌∙◌}
-use mathlib.Core.Logic.{◌⊎◌, inl, inr, ⊎_elim}
 use mathlib.Core.Bool.{Bool, true, false, not}
 use mathlib.Core.List.{List, [], ◌∷◌, ◌++◌, append-nil, append_assoc}
 use lib.ListN.{length, get_or, take, drop, length-append, length-drop, drop_of_length-le, take-append-drop}
@@ -11,15 +10,13 @@ use native.Mathlib.Omega.{arith}
 use native.Mathlib.Nat.{add-zero, zero-add, le_of_suc-le-suc}
 use borrow.Author.Tests.{eqb-true, eq-eqb, ne_eqb, le-ltb}
 use Rattle.terms.specs.Words.{pick}
-use Rattle.terms.proofs.Tests.{not_both, either}
 use Rattle.fields.specs.Numbers.{Bytes}
 use Rattle.fields.specs.Fields.{field_of, head_at}
-use Rattle.fields.specs.Form.{servers_of, sheet_of, Each, InForm, in_form, not_in_form, place_of, place_at, form_by, form_from, form_with, frame_then}
-use Rattle.fields.specs.declared.Form.{Form}
+use Rattle.std.specs.Prelude.{Some, None, Ok, Err}
+use Rattle.fields.specs.Form.{Form, Place, server, last, bad, servers_of, sheet_of, Each, InForm, in_form, not_in_form, place_of, place_at, form_from, form_with, frame_then}
+use Rattle.fields.specs.declared.BadField.{BadField}
 use Rattle.fields.specs.declared.Head.{Head}
 use Rattle.fields.specs.declared.Head.TheVariants.{Missing, Cut, Field}
-use Rattle.fields.specs.declared.Place.{Place}
-use Rattle.fields.specs.declared.Place.TheVariants.{Server, Last, Bad}
 use Rattle.fields.proofs.Heads.{field_length, head_of_field, field_of_head, body_is, behind_is}
 use Rattle.fields.proofs.Places.{server_at, last_at, from_server, from_last, from_bad}
 
@@ -79,7 +76,7 @@ module _ (tag : ℕ) (bodies : List (List ℕ)) where
 
 -- an answer is not both
 pub in_or_not : {n at : ℕ} → not_in_form at ≡ in_form n → ⊥
-in_or_not e = not_both (ap (λ (f : Form). f.good) e) refl
+in_or_not e = cc
 
 -- one more body that fits
 each : (fits : List ℕ → Bool) (body : List ℕ) (bodies : List (List ℕ)) → fits body ≡ true → Each fits bodies → Each fits (body ∷ bodies)
@@ -109,18 +106,18 @@ module _ (tag : ℕ) (fits : List ℕ → Bool) where
   -- the walk passes fields that fit; a server's field has a tag other than the closing one's, and a length of two bytes
   module _ (other : tag ≡ 255 → ⊥) (small : (body : List ℕ) → fits body ≡ true → length body < 65536) (s : List ℕ) where
     pub server_stands : (at : ℕ) (body behind : List ℕ) → fits body ≡ true → drop at s ≡ field_of tag body ++ behind
-        → place_at tag fits s at ≡ Server (at + 3 + length body)
+        → place_at tag fits s at ≡ server (at + 3 + length body)
     unfolding place_at place_of
     server_stands at body behind fit e =
         rw (head_of_field s at tag body behind (small body fit) e, body_is s at tag body behind e) (simp (eq-eqb tag tag refl, fit))
 
     -- the closing field, with what is behind it
     pub closing_stands : (at : ℕ) (behind : List ℕ) → drop at s ≡ field_of 255 [] ++ behind
-        → place_at tag fits s at ≡ pick (ltb (at + 3) (length s)) (Bad (at + 3)) Last
+        → place_at tag fits s at ≡ pick (ltb (at + 3) (length s)) (bad (at + 3)) last
     unfolding place_at place_of
     closing_stands at behind e = rw (head_of_field s at 255 [] behind (omega arith) e) (simp (ne_eqb 255 tag (λ e. other (sym e))))
 
-    last_stands : (at : ℕ) → drop at s ≡ field_of 255 [] → place_at tag fits s at ≡ Last
+    last_stands : (at : ℕ) → drop at s ≡ field_of 255 [] → place_at tag fits s at ≡ last
     last_stands at e =
         let long : length s - at ≡ 3 = sym (length-drop at s) ∙ ap length e ∙ field_length 255 [] in
         closing_stands at [] (e ∙ sym (append-nil (field_of 255 []))) ∙ simp (le-ltb (at + 3) (length s) (omega arith))
@@ -173,12 +170,12 @@ module _ (tag : ℕ) (fits : List ℕ → Bool) where
         ∙ ap in_form w.number
 
     -- a sheet that is not found in form is of no frame and bodies
-    pub form_none : (form_with tag fits s).good ≡ false → {n : ℕ} → InForm tag fits s n → ⊥
-    form_none f w = not_both (ap (λ (r : Form). r.good) (form_in w)) f
+    pub form_none : {e : BadField} → form_with tag fits s ≡ Err e → {n : ℕ} → InForm tag fits s n → ⊥
+    form_none f w = cc (form_in w, f)
 
   -- the walk passes nothing else
   module _ (s : List ℕ) (h : Bytes s) where
-    pub server_field : (at : ℕ) {end : ℕ} → place_at tag fits s at ≡ Server end
+    pub server_field : (at : ℕ) {end : ℕ} → place_at tag fits s at ≡ server end
         → (body : List ℕ) × (fits body ≡ true) × (at + length (field_of tag body) ≡ end) × (drop at s ≡ field_of tag body ++ drop end s)
     server_field at p =
         let f = server_at tag fits s at p in
@@ -187,7 +184,7 @@ module _ (tag : ℕ) (fits : List ℕ → Bool) where
         let long : length body ≡ f.size = length-take-le f.size (drop f.start s) (rw length-drop (omega (arith, stands.within))) in
         (body, f.fit, omega (arith, field_length tag body, stands.starts, f.ends), rw f.ends at stands.bytes)
 
-    pub last_field : (at : ℕ) → place_at tag fits s at ≡ Last → drop at s ≡ field_of 255 []
+    pub last_field : (at : ℕ) → place_at tag fits s at ≡ last → drop at s ≡ field_of 255 []
     last_field at p =
         let f = last_at tag fits s at p in
         let start = f.start in
@@ -201,11 +198,11 @@ module _ (tag : ℕ) (fits : List ℕ → Bool) where
       where
         go : (p : Place) → place_at tag fits s at ≡ p
             → ((at n m : ℕ) → form_from tag fits s left at n ≡ in_form m → (k : ℕ) × (n + k ≡ m) × Rest s at k) → (k : ℕ) × (n + k ≡ m) × Rest s at k
-        go (Bad o) p onward = absurd (in_or_not (sym (from_bad tag fits s left at n p) ∙ e))
-        go Last p onward =
-            let same : n ≡ m = ap (λ (f : Form). f.servers) (sym (from_last tag fits s left at n p) ∙ e) in
+        go (Err o) p onward = absurd (in_or_not (sym (from_bad tag fits s left at n {o = o.offset} p) ∙ e))
+        go (Ok None) p onward =
+            let same : n ≡ m = cc (from_last tag fits s left at n p, e) in
             (0, omega arith, record { bodies = []; number = refl; fit = λ i l. absurd (omega arith); bytes = last_field at p })
-        go (Server end) p onward =
+        go (Ok (Some end)) p onward =
             let (body, fit, ends, first) = server_field at p in
             let (k, count, rest) = onward end (n + 1) m (sym (from_server tag fits s left at n p) ∙ e) in (
               suc k,
@@ -241,34 +238,3 @@ module _ (tag : ℕ) (fits : List ℕ → Bool) where
               fit = rest.fit;
               bytes = stands.bytes ∙ ap (λ l. field_of 1 (take 4 (drop start s)) ++ l) (ap (λ k. drop k s) seven ∙ rest.bytes);
             }
-
--- an answer is one of the two, and by its test which
-module _ (tag : ℕ) (fits : List ℕ → Bool) (s : List ℕ) where
-  abbrev Answer : Form → Type 0
-  Answer f = (f ≡ in_form f.servers) ⊎ (f ≡ not_in_form f.offset)
-
-  walk_answer : (left at n : ℕ) → Answer (form_from tag fits s left at n)
-  unfolding form_from form_by
-  walk_answer zero at n = inr refl
-  walk_answer (suc left) at n = go (place_at tag fits s at) (walk_answer left)
-    where
-      go : (p : Place) → ((at n : ℕ) → Answer (form_from tag fits s left at n)) → Answer (form_by p n (λ end. form_from tag fits s left end (n + 1)))
-      go (Bad o) onward = inr refl
-      go Last onward = inl refl
-      go (Server end) onward = onward end (n + 1)
-
-  form_answer : Answer (form_with tag fits s)
-  unfolding form_with frame_then
-  form_answer = go (head_at s 0)
-    where
-      go : (f : Head) → Answer (frame_then s f (form_from tag fits s (length s) 7 0))
-      go Missing = inr refl
-      go Cut = inr refl
-      go (Field t start size) =
-          either Answer (not (eqb t 1)) (inr refl) (either Answer (not (eqb size 4)) (inr refl) (walk_answer (length s) 7 0))
-
-  pub good_answer : (form_with tag fits s).good ≡ true → form_with tag fits s ≡ in_form (form_with tag fits s).servers
-  good_answer e = ⊎_elim (λ a. a) (λ a. absurd (not_both e (ap (λ (f : Form). f.good) a))) form_answer
-
-  pub bad_answer : (form_with tag fits s).good ≡ false → form_with tag fits s ≡ not_in_form (form_with tag fits s).offset
-  bad_answer e = ⊎_elim (λ a. absurd (not_both (ap (λ (f : Form). f.good) a) e)) (λ a. a) form_answer

@@ -5,10 +5,11 @@ use mathlib.Core.List.{List, [], ◌∷◌}
 use lib.ListN.{length, get_or, drop, length-drop, drop_of_length-le}
 use lib.Seq.{drop-cons}
 use native.Mathlib.Omega.{arith}
-use native.Mathlib.Nat.{mod-one, mod-eq_of_lt, mod-lt, one-le-pow, pow-suc, div-add-mod', mul-le-mul_right, mul-add-mod_self_left, mul-add-mod_self_right, mul-add-div_right, div-eq_of_lt}
+use native.Mathlib.Nat.{div-one, mod-one, mod-eq_of_lt, mod-lt, one-le-pow, pow-suc, div-add-mod', mul-le-mul_right, mul-add-mod_self_left, mul-add-mod_self_right, mul-add-div_right, div-eq_of_lt}
 use mir.Syntax.{w8}
 use mir.Val.{Fits}
 use borrow.Author.Tests.{eq-eqb}
+use Rattle.std.specs.Int.{bytes_high_first}
 use Rattle.fields.specs.Numbers.{Bytes, number_of, bytes_of, number_in}
 
 -- what is known of a slice: each of its elements is a byte
@@ -70,13 +71,6 @@ bytes_kept (b ∷ bs) h =
     rw (mul-add-div_right (power_above (length bs)) b (number_of bs), div-eq_of_lt (number_below bs (tail_bytes b bs h)), bytes_above (length bs) b (number_of bs), bytes_kept bs (tail_bytes b bs h))
     (ap (λ k. k ∷ bs) (mod-eq_of_lt {n = b + 0} (omega (arith, h 0)) ∙ omega arith))
 
--- each of a number's bytes is a byte
-pub bytes_are : (w x : ℕ) → Bytes (bytes_of w x)
-unfolding bytes_of
-bytes_are zero x i = omega arith
-bytes_are (suc w) x zero = mod-lt (x / 256 ^ w) (omega arith)
-bytes_are (suc w) x (suc i) = bytes_are w x i
-
 -- the number from a place on: that byte, and the number behind it
 pub number_from : (l : List ℕ) (i k : ℕ) → i + suc k ≡ length l → number_of (drop i l) ≡ get_or l i 0 * 256 ^ k + number_of (drop (suc i) l)
 unfolding number_of
@@ -101,6 +95,13 @@ number_four l e =
       number_from l 3 0 (sym e),
       ap number_of (drop_of_length-le l {i = 4} (omega arith)),
     )
+
+-- the library's bytes of a number are these
+pub be_bytes : (w x : ℕ) → bytes_high_first w x ≡ bytes_of w x
+unfolding bytes_of
+be_bytes zero x = refl
+be_bytes (suc zero) x = simp div-one
+be_bytes (suc (suc w)) x = ap (λ l. x / 256 ^ suc w % 256 ∷ l) (be_bytes (suc w) x)
 
 -- a part of the right width is its number
 pub number_in_lem : (w : ℕ) (l : List ℕ) → length l ≡ w → number_in w l ≡ number_of l

@@ -1,6 +1,6 @@
 -- What stands where a server's field or the closing field is expected, taken apart by the tests of the field found there.
 use Prim.Native.Nat.{ℕ, suc, ◌+◌, ◌≤◌, ◌<◌}
-use mathlib.Core.Path.{◌≡◌, refl, sym}
+use mathlib.Core.Path.{◌≡◌, refl, sym, ap}
 use mathlib.Core.Logic.{◌⊎◌, inl, inr, ⊎_elim}
 use mathlib.Core.Bool.{Bool, true, false, not}
 use mathlib.Core.List.{List}
@@ -10,28 +10,32 @@ use native.Mathlib.Omega.{arith}
 use borrow.Author.Tests.{eqb-true, ltb-true, ltb-false}
 use Rattle.terms.specs.Words.{pick}
 use Rattle.fields.specs.Fields.{head_at}
-use Rattle.fields.specs.Form.{place_of, place_at, form_by, form_from, in_form, not_in_form}
+use Rattle.std.specs.Prelude.{Result, Err}
+use Rattle.fields.specs.Form.{Place, server, last, bad, place_of, place_at, form_by, form_from, in_form, not_in_form}
+use Rattle.fields.specs.declared.BadField.{BadField}
 use Rattle.fields.specs.declared.Head.{Head}
 use Rattle.fields.specs.declared.Head.TheVariants.{Missing, Cut, Field}
-use Rattle.fields.specs.declared.Place.{Place}
-use Rattle.fields.specs.declared.Place.TheVariants.{Server, Last, Bad}
 use Rattle.fields.proofs.Heads.{head_within, missing_end}
 
-bad_server : {a e : ℕ} → Bad a ≡ Server e → ⊥
-bad_server p = let z : ◌≡◌ {A = ℕ} 0 1 = cc in omega arith
+-- two bad places, or two answers of a sheet that is not in form, at the same offset
+pub same_offset : {A : Type 0} {a o : BadField} → ◌≡◌ {A = Result A BadField} (Err a) (Err o) → a.offset ≡ o.offset
+same_offset e = ap (λ (b : BadField). b.offset) (cc)
 
-bad_last : {a : ℕ} → Bad a ≡ Last → ⊥
-bad_last p = let z : ◌≡◌ {A = ℕ} 0 1 = cc in omega arith
+bad_server : {a e : ℕ} → bad a ≡ server e → ⊥
+bad_server p = cc
 
-last_server : {e : ℕ} → Last ≡ Server e → ⊥
-last_server p = let z : ◌≡◌ {A = ℕ} 0 1 = cc in omega arith
+bad_last : {a : ℕ} → bad a ≡ last → ⊥
+bad_last p = cc
+
+last_server : {e : ℕ} → last ≡ server e → ⊥
+last_server p = cc
 
 -- the tests on a field, and those that led to a server's field
 module _ (a b o : ℕ) where
   abbrev tests : Bool → Bool → Bool → Bool → Bool → Place
-  tests p q r u v = pick p (pick q (Server b) (Bad a)) (pick (not r) (Bad a) (pick (not u) (Bad a) (pick v (Bad o) Last)))
+  tests p q r u v = pick p (pick q (server b) (bad a)) (pick (not r) (bad a) (pick (not u) (bad a) (pick v (bad o) last)))
 
-  server_tests : (p q r u v : Bool) {e : ℕ} → tests p q r u v ≡ Server e → (p ≡ true) × (q ≡ true) × (b ≡ e)
+  server_tests : (p q r u v : Bool) {e : ℕ} → tests p q r u v ≡ server e → (p ≡ true) × (q ≡ true) × (b ≡ e)
   server_tests true true r u v h = (refl, refl, (cc))
   server_tests true false r u v h = absurd (bad_server h)
   server_tests false q false u v h = absurd (bad_server h)
@@ -39,7 +43,7 @@ module _ (a b o : ℕ) where
   server_tests false q true true true h = absurd (bad_server h)
   server_tests false q true true false h = absurd (last_server h)
 
-  last_tests : (p q r u v : Bool) → tests p q r u v ≡ Last → (r ≡ true) × (u ≡ true) × (v ≡ false)
+  last_tests : (p q r u v : Bool) → tests p q r u v ≡ last → (r ≡ true) × (u ≡ true) × (v ≡ false)
   last_tests true true r u v h = absurd (last_server (sym h))
   last_tests true false r u v h = absurd (bad_last h)
   last_tests false q false u v h = absurd (bad_last h)
@@ -47,12 +51,12 @@ module _ (a b o : ℕ) where
   last_tests false q true true true h = absurd (bad_last h)
   last_tests false q true true false h = (refl, refl, refl)
 
-  bad_tests : (p q r u v : Bool) {e : ℕ} → tests p q r u v ≡ Bad e → (a ≡ e) ⊎ ((r ≡ true) × (u ≡ true) × (v ≡ true) × (o ≡ e))
+  bad_tests : (p q r u v : Bool) {e : ℕ} → tests p q r u v ≡ bad e → (a ≡ e) ⊎ ((r ≡ true) × (u ≡ true) × (v ≡ true) × (o ≡ e))
   bad_tests true true r u v h = absurd (bad_server (sym h))
-  bad_tests true false r u v h = inl (cc)
-  bad_tests false q false u v h = inl (cc)
-  bad_tests false q true false v h = inl (cc)
-  bad_tests false q true true true h = inr (refl, refl, refl, (cc))
+  bad_tests true false r u v h = inl (same_offset h)
+  bad_tests false q false u v h = inl (same_offset h)
+  bad_tests false q true false v h = inl (same_offset h)
+  bad_tests false q true true true h = inr (refl, refl, refl, same_offset h)
   bad_tests false q true true false h = absurd (bad_last (sym h))
 
 module _ (tag : ℕ) (fits : List ℕ → Bool) (s : List ℕ) (at : ℕ) where
@@ -64,11 +68,11 @@ module _ (tag : ℕ) (fits : List ℕ → Bool) (s : List ℕ) (at : ℕ) where
     pub fit : fits (take size (drop start s)) ≡ true
     pub ends : start + size ≡ end
 
-  pub server_at : {end : ℕ} → place_at tag fits s at ≡ Server end → ServerAt end
+  pub server_at : {end : ℕ} → place_at tag fits s at ≡ server end → ServerAt end
   unfolding place_at place_of
   server_at {end} = go (head_at s at) refl
     where
-      go : (h : Head) → head_at s at ≡ h → place_of tag fits s at h ≡ Server end → ServerAt end
+      go : (h : Head) → head_at s at ≡ h → place_of tag fits s at h ≡ server end → ServerAt end
       go Missing e p = absurd (bad_server p)
       go Cut e p = absurd (bad_server p)
       go (Field t start size) e p =
@@ -81,11 +85,11 @@ module _ (tag : ℕ) (fits : List ℕ → Bool) (s : List ℕ) (at : ℕ) where
     pub head : head_at s at ≡ Field 255 start 0
     pub ends : length s ≤ start
 
-  pub last_at : place_at tag fits s at ≡ Last → LastAt
+  pub last_at : place_at tag fits s at ≡ last → LastAt
   unfolding place_at place_of
   last_at = go (head_at s at) refl
     where
-      go : (h : Head) → head_at s at ≡ h → place_of tag fits s at h ≡ Last → LastAt
+      go : (h : Head) → head_at s at ≡ h → place_of tag fits s at h ≡ last → LastAt
       go Missing e p = absurd (bad_last p)
       go Cut e p = absurd (bad_last p)
       go (Field t start size) e p =
@@ -93,22 +97,22 @@ module _ (tag : ℕ) (fits : List ℕ → Bool) (s : List ℕ) (at : ℕ) where
           record { start = start; head = rw (eqb-true t 255 closing, eqb-true size 0 empty) at e; ends = ltb-false start (length s) ends }
 
   -- a bad field: bad at its offset, or the closing field with bytes behind it
-  pub bad_at : {o : ℕ} → at ≤ length s → place_at tag fits s at ≡ Bad o
+  pub bad_at : {o : ℕ} → at ≤ length s → place_at tag fits s at ≡ bad o
       → (at ≡ o) ⊎ ((start : ℕ) × (head_at s at ≡ Field 255 start 0) × (start < length s) × (start ≡ o))
   unfolding place_at place_of
   bad_at {o} within = go (head_at s at) refl
     where
-      go : (h : Head) → head_at s at ≡ h → place_of tag fits s at h ≡ Bad o
+      go : (h : Head) → head_at s at ≡ h → place_of tag fits s at h ≡ bad o
           → (at ≡ o) ⊎ ((start : ℕ) × (head_at s at ≡ Field 255 start 0) × (start < length s) × (start ≡ o))
-      go Missing e p = let end : length s ≡ o = cc in inl (omega (arith, missing_end s at e))
-      go Cut e p = inl (cc)
+      go Missing e p = let end : length s ≡ o = same_offset p in inl (omega (arith, missing_end s at e))
+      go Cut e p = inl (same_offset p)
       go (Field t start size) e p =
           ⊎_elim (λ same. inl same)
           (λ (closing, empty, more, same). inr (start, (rw (eqb-true t 255 closing, eqb-true size 0 empty) at e), ltb-true start (length s) more, same))
           (bad_tests at (start + size) start (eqb t tag) (fits (take size (drop start s))) (eqb t 255) (eqb size 0) (ltb start (length s)) p)
 
   -- it takes three bytes or more, all in the sheet
-  pub server_end : {end : ℕ} → place_at tag fits s at ≡ Server end → (at + 3 ≤ end) × (end ≤ length s)
+  pub server_end : {end : ℕ} → place_at tag fits s at ≡ server end → (at + 3 ≤ end) × (end ≤ length s)
   server_end p =
       let f = server_at p in
       let (starts, within) = head_within s at f.head in
@@ -117,14 +121,14 @@ module _ (tag : ℕ) (fits : List ℕ → Bool) (s : List ℕ) (at : ℕ) where
 
 -- one field of the walk
 module _ (tag : ℕ) (fits : List ℕ → Bool) (s : List ℕ) (left at n : ℕ) where
-  pub from_server : {end : ℕ} → place_at tag fits s at ≡ Server end → form_from tag fits s (suc left) at n ≡ form_from tag fits s left end (n + 1)
+  pub from_server : {end : ℕ} → place_at tag fits s at ≡ server end → form_from tag fits s (suc left) at n ≡ form_from tag fits s left end (n + 1)
   unfolding form_from form_by
   from_server e = rw e
 
-  pub from_last : place_at tag fits s at ≡ Last → form_from tag fits s (suc left) at n ≡ in_form n
+  pub from_last : place_at tag fits s at ≡ last → form_from tag fits s (suc left) at n ≡ in_form n
   unfolding form_from form_by
   from_last e = rw e
 
-  pub from_bad : {o : ℕ} → place_at tag fits s at ≡ Bad o → form_from tag fits s (suc left) at n ≡ not_in_form o
+  pub from_bad : {o : ℕ} → place_at tag fits s at ≡ bad o → form_from tag fits s (suc left) at n ≡ not_in_form o
   unfolding form_from form_by
   from_bad e = rw e

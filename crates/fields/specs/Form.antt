@@ -1,13 +1,11 @@
 -- A sheet in form: first the frame's field, then the servers' fields, last the closing field, and nothing behind it.
 -- The forms of a sheet differ in the servers' fields alone: in their tag, and in a test of their bodies.
-use Rattle.std.specs.Prelude.{ℕ, zero, suc, ◌+◌, ◌<◌, ◌≤◌, ◌≡◌, Bool, true, false, not, List, [], ◌∷◌, ◌++◌, length, get_or, take, drop, ltb, eqb}
+use Rattle.std.specs.Prelude.{ℕ, zero, suc, ◌+◌, ◌<◌, ◌≤◌, ◌≡◌, Bool, true, not, List, [], ◌∷◌, ◌++◌, length, get_or, take, drop, ltb, eqb, Option, Some, None, Result, Ok, Err}
 use Rattle.terms.specs.Words.{pick}
 use Rattle.fields.specs.Fields.{field_of, head_at}
-use Rattle.fields.specs.declared.Form.{Form}
+use Rattle.fields.specs.declared.BadField.{BadField}
 use Rattle.fields.specs.declared.Head.{Head}
 use Rattle.fields.specs.declared.Head.TheVariants.{Missing, Cut, Field}
-use Rattle.fields.specs.declared.Place.{Place}
-use Rattle.fields.specs.declared.Place.TheVariants.{Server, Last, Bad}
 
 -- the servers' fields, in slot order
 unfoldable pub servers_of : ℕ → List (List ℕ) → List ℕ
@@ -51,29 +49,45 @@ pub data FirstBad (tag : ℕ) (fits : List ℕ → Bool) (sheet : List ℕ) (at 
       → drop last sheet ≡ field_of 255 [] ++ drop at sheet → FirstBad tag fits sheet at
 
 -- the answers: in form with so many servers, or not, with the offset of the first bad field
+abbrev pub Form : Type 0
+Form = Result ℕ BadField
+
 abbrev pub in_form : ℕ → Form
-in_form n = record { good = true; offset = 0; servers = n }
+in_form n = Ok n
 
 abbrev pub not_in_form : ℕ → Form
-not_in_form at = record { good = false; offset = at; servers = 0 }
+not_in_form at = Err (record { offset = at })
 
--- where a server's field or the closing field is expected: a server's with its end, the closing one with nothing behind it, or a bad one
+-- what stands where a server's field or the closing field is expected: a server's with its end, the closing one with nothing behind it,
+-- or a bad one
+abbrev pub Place : Type 0
+Place = Result (Option ℕ) BadField
+
+abbrev pub server : ℕ → Place
+server end = Ok (Some end)
+
+abbrev pub last : Place
+last = Ok None
+
+abbrev pub bad : ℕ → Place
+bad at = Err (record { offset = at })
+
 unfoldable pub place_of : ℕ → (List ℕ → Bool) → List ℕ → ℕ → Head → Place
-place_of tag fits sheet at Missing = Bad (length sheet)
-place_of tag fits sheet at Cut = Bad at
+place_of tag fits sheet at Missing = bad (length sheet)
+place_of tag fits sheet at Cut = bad at
 place_of tag fits sheet at (Field t start size) =
-    pick (eqb t tag) (pick (fits (take size (drop start sheet))) (Server (start + size)) (Bad at))
-    (pick (not (eqb t 255)) (Bad at)
-    (pick (not (eqb size 0)) (Bad at)
-    (pick (ltb start (length sheet)) (Bad start) Last)))
+    pick (eqb t tag) (pick (fits (take size (drop start sheet))) (server (start + size)) (bad at))
+    (pick (not (eqb t 255)) (bad at)
+    (pick (not (eqb size 0)) (bad at)
+    (pick (ltb start (length sheet)) (bad start) last)))
 
 unfoldable pub place_at : ℕ → (List ℕ → Bool) → List ℕ → ℕ → Place
 place_at tag fits sheet at = place_of tag fits sheet at (head_at sheet at)
 
 unfoldable pub form_by : Place → ℕ → (ℕ → Form) → Form
-form_by (Server end) n onward = onward end
-form_by Last n onward = in_form n
-form_by (Bad at) n onward = not_in_form at
+form_by (Ok (Some end)) n onward = onward end
+form_by (Ok None) n onward = in_form n
+form_by (Err e) n onward = Err e
 
 -- the form from an offset on, behind n servers' fields, where at most `left` fields are left
 unfoldable pub form_from : ℕ → (List ℕ → Bool) → List ℕ → ℕ → ℕ → ℕ → Form

@@ -1,117 +1,75 @@
 // The sheet's tagged fields over slices of bytes: numbers, heads, the walk over the fields, and their writing.
 #![tactic(auto)]
 
-ghost use Rattle.std.specs.Prelude.{◌≡◌, ◌+◌, ◌<◌, ◌≤◌, length};
-ghost use Rattle.fields.specs.Numbers.{number_in, bytes_of, placed};
+ghost use Rattle.std.specs.Prelude.{◌≡◌, ◌≤◌, length};
+ghost use Rattle.fields.specs.Numbers.{number_in, placed};
 ghost use Rattle.fields.specs.Fields.{head_at, head_of};
-ghost use Rattle.fields.specs.Form.{in_form, not_in_form, place_of, place_at, form_from, form_with};
+ghost use Rattle.fields.specs.Form.{place_at, form_from, form_with};
 ghost use Rattle.fields.specs.Bodies.{body_fits};
 ghost use Rattle.fields.specs.Old.{old_body, form_of};
 
+// The tags of the frame's field, of a server's and of the closing one.
+pub const FRAME_TAG: u8 = 1;
+
+pub const SERVER_TAG: u8 = 2;
+
+pub const CLOSING_TAG: u8 = 255;
+
+// The bytes of a head, of the frame's body and of a server's, and of both with their heads.
+pub const HEAD_SIZE: usize = 3;
+
+pub const FRAME_SIZE: usize = 4;
+
+pub const SERVER_SIZE: usize = 40;
+
+pub const FRAME_FIELD: usize = HEAD_SIZE + FRAME_SIZE;
+
+pub const SERVER_FIELD: usize = HEAD_SIZE + SERVER_SIZE;
+
 // What stands at an offset: nothing, a field that is cut off, or a field's tag, its body's start and its body's length.
+// No Option: the definition `head_at` tells nothing from a field that is cut off, which lie at different offsets.
 #[derive(Clone, Copy)]
 pub enum Head {
     Missing,
     Cut,
-    Field(u8, usize, usize),
+    Field { tag: u8, start: usize, size: usize },
 }
 
-// What stands where a server's field or the closing field is expected: a server's with its end, the closing one, or the offset of a bad one.
+// Why a sheet is not in form: the offset of its first bad field.
 #[derive(Clone, Copy)]
-enum Place {
-    Server(usize),
-    Last,
-    Bad(usize),
-}
-
-// A sheet in form with so many servers, or one that is not, with the offset of its first bad field.
-#[derive(Clone, Copy)]
-pub struct Form {
-    pub good: bool,
+pub struct BadField {
     pub offset: usize,
-    pub servers: usize,
 }
 
-fn wide(x: u8) -> u32
-    ensures { (result ≡ x) × (result < 256) }
-{
-    x as u32
-}
-
-// The number that a part of four bytes is.
-#[tactic(auto, using(crate::proofs::Numbers::number_in_lem, crate::proofs::Numbers::number_four), unfolding(crate::specs::Numbers::number_in))]
+// The number that a part of four bytes is; a part of another width is 0.
+#[tactic(auto, using(crate::proofs::Numbers::number_four), unfolding(crate::specs::Numbers::number_in))]
 pub fn read4(part: &[u8]) -> u32
     ensures { result ≡ number_in 4 part.now }
 {
-    if part.len() != 4 {
-        return 0;
+    match part.as_array() {
+        Some(bytes) => u32::from_be_bytes(*bytes),
+        None => 0,
     }
-    let a = wide(part[0]);
-    let b = wide(part[1]);
-    let c = wide(part[2]);
-    let d = wide(part[3]);
-    a * 16777216 + b * 65536 + c * 256 + d
 }
 
-// The number that a part of two bytes is.
-#[tactic(auto, using(crate::proofs::Numbers::number_in_lem, crate::proofs::Numbers::number_two), unfolding(crate::specs::Numbers::number_in))]
-pub fn read2(part: &[u8]) -> u16
-    ensures { result ≡ number_in 2 part.now }
+// Bytes from an offset on; nothing moves where they do not fit.
+#[tactic(auto, using(crate::proofs::Placing::placed_part, crate::proofs::Placing::placed_out))]
+pub fn put(buffer: &mut [u8], at: usize, bytes: &[u8])
+    ensures { buffer.new ≡ placed buffer.old at bytes.now }
 {
-    if part.len() != 2 {
-        return 0;
+    if bytes.len() <= buffer.len() && at <= buffer.len() - bytes.len() {
+        let end = at + bytes.len();
+        buffer[at..end].copy_from_slice(bytes);
     }
-    let a = wide(part[0]);
-    let b = wide(part[1]);
-    (a * 256 + b) as u16
-}
-
-// A number as four bytes from an offset on; nothing moves where they do not fit.
-#[tactic(auto, using(crate::proofs::Placing::placed_out), unfolding(crate::specs::Numbers::bytes_of))]
-pub fn put4(buffer: &mut [u8], at: usize, x: u32)
-    ensures { buffer.new ≡ placed buffer.old at (bytes_of 4 x) }
-{
-    if buffer.len() < 4 {
-        return;
-    }
-    if buffer.len() - 4 < at {
-        return;
-    }
-    buffer[at] = (x / 16777216 % 256) as u8;
-    buffer[at + 1] = (x / 65536 % 256) as u8;
-    buffer[at + 2] = (x / 256 % 256) as u8;
-    buffer[at + 3] = (x % 256) as u8;
-}
-
-// A number as two bytes from an offset on; nothing moves where they do not fit.
-#[tactic(auto, using(crate::proofs::Placing::placed_out), unfolding(crate::specs::Numbers::bytes_of))]
-pub fn put2(buffer: &mut [u8], at: usize, x: u16)
-    ensures { buffer.new ≡ placed buffer.old at (bytes_of 2 x) }
-{
-    if buffer.len() < 2 {
-        return;
-    }
-    if buffer.len() - 2 < at {
-        return;
-    }
-    buffer[at] = (x / 256 % 256) as u8;
-    buffer[at + 1] = (x % 256) as u8;
 }
 
 // A field's head from an offset on; nothing moves where it does not fit.
-#[tactic(auto, using(crate::proofs::Placing::placed_out), unfolding(crate::specs::Numbers::bytes_of))]
+#[tactic(auto, using(crate::proofs::Placing::placed_head))]
 pub fn put_head(buffer: &mut [u8], at: usize, tag: u8, size: u16)
     ensures { buffer.new ≡ placed buffer.old at (head_of tag size) }
 {
-    if buffer.len() < 3 {
-        return;
-    }
-    if buffer.len() - 3 < at {
-        return;
-    }
-    buffer[at] = tag;
-    buffer[at + 1] = (size / 256 % 256) as u8;
-    buffer[at + 2] = (size % 256) as u8;
+    let [high, low] = size.to_be_bytes();
+    put(buffer, at, &[tag, high, low]);
 }
 
 // The field at an offset of the sheet.
@@ -122,35 +80,18 @@ pub fn head_at(sheet: &[u8], at: usize) -> Head
     if sheet.len() <= at {
         return Head::Missing;
     }
-    if sheet.len() - at < 3 {
+    if sheet.len() - at < HEAD_SIZE {
         return Head::Cut;
     }
-    let behind_tag = at + 1;
-    let start = at + 3;
-    let length = read2(&sheet[behind_tag..start]) as usize;
-    if sheet.len() - start < length {
+    let start = at + HEAD_SIZE;
+    let size = usize::from(u16::from_be_bytes([sheet[at + 1], sheet[at + 2]]));
+    if sheet.len() - start < size {
         return Head::Cut;
     }
-    Head::Field(sheet[at], start, length)
-}
-
-fn in_form(n: usize) -> Form
-    ensures { result ≡ in_form n }
-{
-    Form {
-        good: true,
-        offset: 0,
-        servers: n,
-    }
-}
-
-fn not_in_form(at: usize) -> Form
-    ensures { result ≡ not_in_form at }
-{
-    Form {
-        good: false,
-        offset: at,
-        servers: 0,
+    Head::Field {
+        tag: sheet[at],
+        start,
+        size,
     }
 }
 
@@ -159,10 +100,7 @@ fn not_in_form(at: usize) -> Form
 fn old_body(body: &[u8]) -> bool
     ensures { result ≡ old_body body.now }
 {
-    if body.len() != 40 {
-        return false;
-    }
-    true
+    body.len() == SERVER_SIZE
 }
 
 // Whether a body fits a server's field of a tag: the one test that is a form's own.
@@ -170,95 +108,77 @@ fn old_body(body: &[u8]) -> bool
 fn fits(tag: u8, body: &[u8]) -> bool
     ensures { result ≡ body_fits tag body.now }
 {
-    if tag != 2 {
-        return false;
-    }
-    old_body(body)
+    tag == SERVER_TAG && old_body(body)
 }
 
-// A whole field where a server's or the closing one is expected.
-#[tactic(auto, unfolding(crate::specs::Form::place_of))]
-fn place_of(sheet: &[u8], at: usize, tag: u8, found: u8, start: usize, size: usize) -> Place
-    requires { start + size ≤ length sheet.now }
-    ensures { result ≡ place_of tag (body_fits tag) sheet.now at (Head.Field found start size) }
-{
-    if found == tag {
-        let end = start + size;
-        if fits(tag, &sheet[start..end]) {
-            return Place::Server(end);
-        }
-        return Place::Bad(at);
-    }
-    if found != 255 {
-        return Place::Bad(at);
-    }
-    if size != 0 {
-        return Place::Bad(at);
-    }
-    if start < sheet.len() {
-        return Place::Bad(start);
-    }
-    Place::Last
-}
-
+// Where a server's field or the closing one is expected: the end of a server's, nothing at the closing one, or a bad field.
 #[tactic(auto, using(crate::proofs::Heads::head_within), unfolding(crate::specs::Form::place_at, crate::specs::Form::place_of))]
-fn place_at(sheet: &[u8], at: usize, tag: u8) -> Place
+fn place_at(sheet: &[u8], at: usize, tag: u8) -> Result<Option<usize>, BadField>
     ensures { result ≡ place_at tag (body_fits tag) sheet.now at }
 {
-    let head = head_at(sheet, at);
-    match head {
-        Head::Missing => Place::Bad(sheet.len()),
-        Head::Cut => Place::Bad(at),
-        Head::Field(found, start, size) => place_of(sheet, at, tag, found, start, size),
+    match head_at(sheet, at) {
+        Head::Missing => Err(BadField {
+            offset: sheet.len(),
+        }),
+        Head::Field {
+            tag: found,
+            start,
+            size,
+        } if found == tag => {
+            let end = start + size;
+            if !fits(tag, &sheet[start..end]) {
+                return Err(BadField { offset: at });
+            }
+            Ok(Some(end))
+        }
+        Head::Field {
+            tag: CLOSING_TAG,
+            start,
+            size: 0,
+        } => {
+            if start < sheet.len() {
+                return Err(BadField { offset: start });
+            }
+            Ok(None)
+        }
+        _ => Err(BadField { offset: at }),
     }
 }
 
-// The walk over the fields behind the frame's.
+// The servers' fields behind the frame's, counted as far as the closing one.
 #[tactic(auto, using(crate::proofs::Places::server_end))]
-fn form_from(sheet: &[u8], tag: u8) -> Form
+fn form_from(sheet: &[u8], tag: u8) -> Result<usize, BadField>
     requires { 7 ≤ length sheet.now }
     ensures { result ≡ form_from tag (body_fits tag) sheet.now (length sheet.now) 7 0 }
 {
-    let mut at = 7;
+    let mut at = FRAME_FIELD;
     let mut servers = 0;
-    loop {
-        let place = place_at(sheet, at, tag);
-        match place {
-            Place::Server(end) => {
-                at = end;
-                servers += 1;
-            }
-            Place::Last => return in_form(servers),
-            Place::Bad(offset) => return not_in_form(offset),
-        }
+    while let Some(end) = place_at(sheet, at, tag)? {
+        at = end;
+        servers += 1;
     }
+    Ok(servers)
 }
 
 // The form of a whole sheet whose servers' fields have a tag.
-#[tactic(auto, using(crate::proofs::Heads::head_within), unfolding(crate::specs::Form::form_with, crate::specs::Form::frame_then))]
-fn form_with(sheet: &[u8], tag: u8) -> Form
+#[tactic(auto, using(crate::proofs::Heads::head_within, crate::proofs::Heads::missing_end), unfolding(crate::specs::Form::form_with, crate::specs::Form::frame_then))]
+fn form_with(sheet: &[u8], tag: u8) -> Result<usize, BadField>
     ensures { result ≡ form_with tag (body_fits tag) sheet.now }
 {
-    let head = head_at(sheet, 0);
-    match head {
-        Head::Missing => not_in_form(sheet.len()),
-        Head::Cut => not_in_form(0),
-        Head::Field(found, _, size) => {
-            if found != 1 {
-                return not_in_form(0);
-            }
-            if size != 4 {
-                return not_in_form(0);
-            }
-            form_from(sheet, tag)
-        }
+    match head_at(sheet, 0) {
+        Head::Field {
+            tag: FRAME_TAG,
+            size: FRAME_SIZE,
+            ..
+        } => form_from(sheet, tag),
+        _ => Err(BadField { offset: 0 }),
     }
 }
 
-// The form of a whole sheet of the old form: in form with so many servers, or the offset of the first bad field.
+// A whole sheet of the old form: the number of its servers, or its first bad field.
 #[tactic(auto, unfolding(crate::specs::Old::form_of, crate::specs::Bodies::body_fits))]
-pub fn form_of(sheet: &[u8]) -> Form
+pub fn form_of(sheet: &[u8]) -> Result<usize, BadField>
     ensures { result ≡ form_of sheet.now }
 {
-    form_with(sheet, 2)
+    form_with(sheet, SERVER_TAG)
 }

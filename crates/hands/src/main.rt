@@ -1,46 +1,41 @@
 // Boards made by hand, for the answers that generated lines do not reach: 14, 18 and 23. apart/src/bin/hands.rs makes the same boards.
 #![tactic(auto)]
 
-ghost use Rattle.std.specs.Prelude.{◌≤◌};
-
 use board::Board;
 use quantity::{Instant, Length};
 use resources::Set;
 use std::io;
 use timing::{Figures, Life, Lock, State};
 
-fn put(rt: &impl Print, clock: u64, named: u64, number: u8, value: u64) -> io::Result<()> {
-    let mut text = [0u8; 64];
+fn put(
+    rt: &impl Print,
+    clock: u64,
+    named: Option<usize>,
+    number: u8,
+    value: u64,
+) -> io::Result<()> {
+    let mut text = [0; 64];
     let n = lines::print(clock, named, number, value, &mut text);
-    output::flush(rt, &text, n)?;
-    Ok(())
+    rt.write_all(&text[..n])
 }
 
 // A line asked of a board, and its answer's line.
 fn ask(rt: &impl Print, board: Board, line: &[u8]) -> io::Result<Board> {
     let told = desk::serve(board, lines::take_apart(line));
-    let next = told.board;
-    let shown = desk::show(next);
+    let shown = desk::show(told.board);
     put(rt, shown.clock, shown.named, told.number, told.value)?;
-    Ok(next)
+    Ok(told.board)
 }
 
 // A server that uses resources 0 and 1 alone.
 fn server(period: u32, budget: u32, first: u32, second: u32) -> Figures {
-    let none = Length::NONE;
+    let mut holds = [Length::NONE; 8];
+    holds[0] = Length(first);
+    holds[1] = Length(second);
     Figures {
         period: Length(period),
         budget: Length(budget),
-        holds: [
-            Length(first),
-            Length(second),
-            none,
-            none,
-            none,
-            none,
-            none,
-            none,
-        ],
+        holds,
     }
 }
 
@@ -49,8 +44,7 @@ fn made(life: Life, clock: Instant, locked: u8, closed: u8) -> Board {
     let mut table = [Figures::NOBODY; 16];
     table[0] = server(10, 4, 2, 0);
     table[1] = server(30, 9, 3, 1);
-    let idle = Life::begin();
-    let mut lives = [idle; 16];
+    let mut lives = [Life::begin(); 16];
     lives[0] = life;
     Board {
         frame: Length(60),
@@ -140,37 +134,30 @@ fn arrive_at_end(rt: &impl Print, left: u32, deadline: Instant) -> io::Result<()
     Ok(())
 }
 
-// One for a byte that stands as it was.
-fn one(byte: u8) -> u64
-    ensures { result ≤ 1 }
-{
-    if byte == 170 { 1 } else { 0 }
-}
+// What a buffer's bytes are before a sheet is written into it.
+const BLANK: u8 = 170;
 
 // How many bytes stand as they were.
 fn kept(buffer: &[u8]) -> u64 {
-    let mut n = 0;
-    let mut i = 0;
-    while i < buffer.len() {
-        n += one(buffer[i]);
-        i += 1;
-    }
-    n
+    // No From from usize to u64, here and below.
+    buffer.iter().filter(|byte| **byte == BLANK).count() as u64
 }
 
-// A sheet written into bytes of 170: how many of them stand as they were, nobody, the answer's number and its value.
+// A sheet written into a blank buffer: how many of its bytes stand as they were, nobody, the answer's number and its value.
 fn write(rt: &impl Print, board: Board, buffer: &mut [u8]) -> io::Result<()> {
-    let w = sheet::write(board, buffer);
-    put(rt, kept(buffer), 16, w.number, w.value)
+    match sheet::write(board, buffer) {
+        Ok(size) => put(rt, kept(buffer), None, 0, size as u64),
+        Err(refusal) => put(rt, kept(buffer), None, u8::from(refusal), 0),
+    }
 }
 
 fn write_all(rt: &impl Print) -> io::Result<()> {
     let board = made(Life::begin(), Instant::BEGIN, 0, 0);
-    write(rt, board, &mut [170u8; 0])?;
-    write(rt, board, &mut [170u8; 95])?;
-    write(rt, board, &mut [170u8; 96])?;
-    write(rt, board, &mut [170u8; 100])?;
-    write(rt, Board::blank(), &mut [170u8; 9])
+    write(rt, board, &mut [BLANK; 0])?;
+    write(rt, board, &mut [BLANK; 95])?;
+    write(rt, board, &mut [BLANK; 96])?;
+    write(rt, board, &mut [BLANK; 100])?;
+    write(rt, Board::blank(), &mut [BLANK; 9])
 }
 
 fn main(rt: HostRuntime) -> io::Result<()> {

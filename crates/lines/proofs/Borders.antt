@@ -2,6 +2,7 @@
 use mathlib.Core.Path.{◌≡◌, refl}
 use mathlib.Core.List.{[], ◌∷◌}
 use lib.ListN.{replicate}
+use Rattle.std.specs.Prelude.{Some, None}
 use Rattle.lines.specs.declared.Call.TheVariants.{Start, Arrive, Lock}
 use Rattle.lines.specs.Text.{onto, fields_of, are_digits, value_from, value_of, is_number, are_numbers, values_of, digits_within, digits_of}
 use Rattle.lines.specs.Calls.{asks, plain, malformed, call_by, call_of, letter_of, fields_call, line_of}
@@ -33,8 +34,8 @@ unfolding line_of fields_call fields_of onto are_numbers is_number are_digits va
 others = (refl, refl, refl, refl, refl, refl, refl, refl)
 
 -- "3 - 20 8" and "6 15 0 3" with their line ends
-answers : (text_of 3 16 20 8 ≡ (51 ∷ 32 ∷ 45 ∷ 32 ∷ 50 ∷ 48 ∷ 32 ∷ 56 ∷ 10 ∷ []))
-    × (text_of 6 15 0 3 ≡ (54 ∷ 32 ∷ 49 ∷ 53 ∷ 32 ∷ 48 ∷ 32 ∷ 51 ∷ 10 ∷ []))
+answers : (text_of 3 None 20 8 ≡ (51 ∷ 32 ∷ 45 ∷ 32 ∷ 50 ∷ 48 ∷ 32 ∷ 56 ∷ 10 ∷ []))
+    × (text_of 6 (Some 15) 0 3 ≡ (54 ∷ 32 ∷ 49 ∷ 53 ∷ 32 ∷ 48 ∷ 32 ∷ 51 ∷ 10 ∷ []))
 unfolding text_of named_text digits_of digits_within
 answers = (refl, refl)
 

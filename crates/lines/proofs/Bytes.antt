@@ -1,11 +1,12 @@
 -- Stores at consecutive places: one more in front, or more behind.
-use Prim.Native.Nat.{ℕ, suc, ◌+◌, ◌-◌, ◌<◌, ◌≤◌}
+use Prim.Native.Nat.{ℕ, suc, ◌+◌, ◌<◌, ◌≤◌}
 use mathlib.Core.Path.{◌≡◌, refl, ◌∙◌}
 use mathlib.Core.List.{List, [], ◌∷◌, ◌++◌}
 use native.Mathlib.Omega.{arith}
 use borrow.Author.Tests.{lt-ltb, le-ltb}
 use lib.ListN.{length, set, drop, length-append}
 use lib.Seq.{sets, sets-eq, set_comm}
+use Rattle.std.specs.Prelude.{Option, Some, None}
 use Rattle.lines.specs.Text.{digits_of}
 use Rattle.lines.specs.Answers.{named_text, ended, text_of}
 
@@ -27,12 +28,9 @@ sets_behind (v ∷ vs) ws l i =
 pub sets_start : (vs l : List ℕ) → length vs ≤ length l → sets l 0 vs ≡ vs ++ drop (length vs) l
 sets_start vs l h = let e : 0 + length vs ≡ length vs = omega arith in sets-eq vs l 0 (omega arith) ∙ rw e
 
--- the first of the bytes and one behind them, where the others stand already
-pub sets_done : (b l ds tail : List ℕ) (at k w x then : ℕ) → b ≡ sets l k tail → k ≡ suc at → ds ≡ x ∷ tail → w ≡ length ds
-    → set (set b (k - 1) x) (at + w) then ≡ sets l at (ds ++ (then ∷ []))
-sets_done b l ds tail at k w x then eb ek ed ew =
-    let e : k - 1 ≡ at = omega arith in
-    rw (ew, ed, e, eb, sets_front tail l k at x ek) (sets_behind (x ∷ tail) (then ∷ []) l at)
+-- one more behind them
+pub sets_end : (l ds : List ℕ) (i w then : ℕ) → w ≡ length ds → set (sets l i ds) (i + w) then ≡ sets l i (ds ++ (then ∷ []))
+sets_end l ds i w then e = rw e (sets_behind ds (then ∷ []) l i)
 
 -- more bytes at the place where the first end
 pub sets_then : (l vs ws : List ℕ) (i j : ℕ) → j ≡ i + length vs → sets (sets l i vs) j ws ≡ sets l i (vs ++ ws)
@@ -41,15 +39,19 @@ sets_then l vs ws i j e = rw e (sets_behind vs ws l i)
 pub ended_length : (f : List ℕ) (c : ℕ) → length (ended f c) ≡ length f + 1
 ended_length f c = length-append f (c ∷ [])
 
-pub named_slot : (n : ℕ) → n < 16 → named_text n ≡ digits_of n
+pub named_slot : (n : ℕ) → n < 16 → named_text (Some n) ≡ digits_of n
 unfolding named_text
 named_slot n h = simp (lt-ltb n 16 h)
 
-pub named_nobody : (n : ℕ) → 16 ≤ n → named_text n ≡ 45 ∷ []
+pub named_other : (n : ℕ) → 16 ≤ n → named_text (Some n) ≡ 45 ∷ []
 unfolding named_text
-named_nobody n h = simp (le-ltb n 16 h)
+named_other n h = simp (le-ltb n 16 h)
 
-module _ (clock named number value : ℕ) where
+pub named_nobody : named_text None ≡ 45 ∷ []
+unfolding named_text
+named_nobody = refl
+
+module _ (clock : ℕ) (named : Option ℕ) (number value : ℕ) where
   pub text_length : length (text_of clock named number value)
       ≡ length (digits_of clock) + length (named_text named) + length (digits_of number) + length (digits_of value) + 4
   unfolding text_of

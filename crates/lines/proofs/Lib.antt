@@ -1,6 +1,6 @@
 pub mod Decimal
 pub mod Fields
-pub mod Table
+pub mod Gathering
 pub mod Whole
 pub mod Spelling
 pub mod Fits

@@ -1,11 +1,12 @@
 -- A number up to the largest has one spelling: what is printed is read back, and what is accepted is what is printed.
-use Prim.Native.Nat.{ℕ, zero, suc, ◌+◌, ◌-◌, ◌*◌, ◌/◌, ◌%◌, ◌^◌, ◌≤◌, ◌<◌}
+use Prim.Native.Nat.{ℕ, zero, suc, ◌+◌, ◌-◌, ◌*◌, ◌/◌, ◌%◌, ◌^◌, ◌≤◌, ◌<◌, max}
 use mathlib.Core.Path.{◌≡◌, refl, sym, ap, ◌∙◌}
 use mathlib.Core.Bool.{Bool, true, false, not, ◌&&◌, ◌||◌}
 use mathlib.Core.List.{List, [], ◌∷◌, ◌++◌, append-nil}
 use mathlib.Core.Logic.{◌⊎◌, inl, inr}
 use native.Mathlib.Omega.{arith}
 use native.Mathlib.Nat.{pow-suc}
+use native.Mathlib.Numerals.{add-one}
 use native.Mathlib.Decide.{dec_lt}
 use borrow.Author.Tests.{lt-ltb, le-ltb, le-leb, ne_eqb, leb-true, eqb-true, eqb-false, not-true}
 use lib.Dec.{ltb, leb, eqb}
@@ -48,15 +49,7 @@ digits_more n h k = digits_step 19 n h ∙ ap (λ (s : List ℕ). s ++ ((48 + n 
 pub width_more : (n : ℕ) → 10 ≤ n → n ≤ largest_number → length (digits_of n) ≡ length (digits_of (n / 10)) + 1
 width_more n h k = rw (digits_more n h k, length-append)
 
--- one digit at least, and twenty at most
-pub digits_least : (n : ℕ) → 1 ≤ length (digits_of n)
-unfolding digits_of digits_within
-digits_least n = least (ltb n 10)
-  where
-    least : (t : Bool) → 1 ≤ length (pick t ((48 + n) ∷ []) (digits_within 19 (n / 10) ++ ((48 + n % 10) ∷ [])))
-    least true = omega arith
-    least false = rw length-append (omega arith)
-
+-- twenty digits at most
 digits_most : (k n : ℕ) → length (digits_within k n) ≤ k
 unfolding digits_within
 digits_most zero n = omega arith
@@ -70,6 +63,52 @@ digits_most (suc k) n = go (ltb n 10) (digits_most k (n / 10))
 pub width_most : (n : ℕ) → length (digits_of n) ≤ 20
 unfolding digits_of
 width_most n = digits_most 20 n
+
+pow_some : (k : ℕ) → 1 ≤ 10 ^ k
+pow_some zero = omega arith
+pow_some (suc k) = let p = pow-suc 10 k in omega (arith, pow_some k)
+
+-- as many digits as the largest power of ten that is not above the number says
+wide : (j k n : ℕ) → k ≤ j → 10 ^ k ≤ max n 1 → max n 1 < 10 * 10 ^ k → length (digits_within (suc j) n) ≡ k + 1
+wide j zero n l h t = rw (digits_small j n (omega arith)) refl
+wide zero (suc k) n l h t = absurd (omega arith)
+wide (suc j) (suc k) n l h t =
+    let p = pow-suc 10 k in
+    let q = pow_some k in
+    rw (digits_step (suc j) n (omega arith), length-append) (omega (arith, wide j k (n / 10) (omega arith) (omega arith) (omega arith)))
+
+pub width_is : (n k : ℕ) → 10 ^ k ≤ max n 1 → max n 1 < 10 * 10 ^ k → k < 20 → length (digits_of n) ≡ k + 1
+unfolding digits_of
+width_is n k h t l = wide 19 k n (omega arith) h t
+
+-- room for exactly the digits that there are is enough
+exact : (k n : ℕ) → digits_within (length (digits_within k n)) n ≡ digits_within k n
+unfolding digits_within
+exact zero n = refl
+exact (suc k) n = go (ltb n 10) refl (exact k (n / 10))
+  where
+    go : (t : Bool) → ltb n 10 ≡ t → digits_within (length (digits_within k (n / 10))) (n / 10) ≡ digits_within k (n / 10)
+        → digits_within (length (digits_within (suc k) n)) n ≡ digits_within (suc k) n
+    go true e ih = simp e
+    go false e ih = simp (e, length-append, add-one, ih)
+
+pub digits_exact : (n : ℕ) → digits_within (length (digits_of n)) n ≡ digits_of n
+unfolding digits_of
+digits_exact n = exact 20 n
+
+-- the last digit, and those before it
+pub digits_last : (j n : ℕ) → length (digits_within (suc j) n) ≡ suc j
+    → (digits_within (suc j) n ≡ digits_within j (n / 10) ++ ((48 + n % 10) ∷ [])) × (length (digits_within j (n / 10)) ≡ j)
+unfolding digits_within
+digits_last j n e = go j (dec_lt n 10) e
+  where
+    go : (j : ℕ) → Dec (n < 10) → length (digits_within (suc j) n) ≡ suc j
+        → (digits_within (suc j) n ≡ digits_within j (n / 10) ++ ((48 + n % 10) ∷ [])) × (length (digits_within j (n / 10)) ≡ j)
+    go zero (yes h) e = let m : n % 10 ≡ n = omega arith in (simp (lt-ltb n 10 h, m), refl)
+    go (suc j) (yes h) e = absurd (omega (arith, ap length (digits_small (suc j) n h)))
+    go j (no h) e =
+        let s = digits_step j n (omega arith) in
+        (s, omega (arith, ap length s, length-append (digits_within j (n / 10)) ((48 + n % 10) ∷ [])))
 
 value_from_append : (s t : List ℕ) (v : ℕ) → value_from v (s ++ t) ≡ value_from (value_from v s) t
 unfolding value_from

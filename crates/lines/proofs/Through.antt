@@ -77,9 +77,6 @@ holds_more p q h w =
           ∙ ap (λ (l : List ℕ). take 256 p ++ l) (room_left p q h w) ∙ take_join p q;
     }
 
-holds_none : (h : Held) → length h.bytes ≡ 256 → h.count ≡ 0 → Holds [] h
-holds_none h s e = record { size = s; count = e; bytes = rw e }
-
 no_bytes : (p : List ℕ) → length p ≡ 0 → p ≡ []
 no_bytes [] e = refl
 no_bytes (c ∷ p) e = absurd (omega arith)

@@ -1,18 +1,19 @@
 -- The line that the bench program prints for a line (document 01, "The bench program").
-use Rattle.std.specs.Prelude.{ℕ, Bool, List, [], ◌∷◌, ◌++◌, ltb, length, drop}
+use Rattle.std.specs.Prelude.{ℕ, Bool, Option, Some, None, List, [], ◌∷◌, ◌++◌, ltb, length, drop}
 use Rattle.terms.specs.Words.{pick}
 use Rattle.lines.specs.Text.{digits_of}
 
 -- the named slot, 0 to 15, or "-"
-unfoldable pub named_text : ℕ → List ℕ
-named_text named = pick (ltb named 16) (digits_of named) (45 ∷ [])
+unfoldable pub named_text : Option ℕ → List ℕ
+named_text None = 45 ∷ []
+named_text (Some slot) = pick (ltb slot 16) (digits_of slot) (45 ∷ [])
 
 -- a field and the byte that ends it
 abbrev pub ended : List ℕ → ℕ → List ℕ
 ended field c = field ++ (c ∷ [])
 
 -- clock, named slot or "-", answer number, value, with one space between, and a line end
-unfoldable pub text_of : ℕ → ℕ → ℕ → ℕ → List ℕ
+unfoldable pub text_of : ℕ → Option ℕ → ℕ → ℕ → List ℕ
 text_of clock named number value =
     ended (digits_of clock) 32 ++ (ended (named_text named) 32 ++ (ended (digits_of number) 32 ++ ended (digits_of value) 10))
 

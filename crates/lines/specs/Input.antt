@@ -1,11 +1,11 @@
 -- The lines of an input that comes in blocks, and the step that goes through a block line by line.
-use Rattle.std.specs.Prelude.{ℕ, ◌+◌, ◌-◌, min, Bool, true, false, ◌&&◌, List, [], ◌∷◌, ltb, eqb, length, take, drop}
+use Rattle.std.specs.Prelude.{ℕ, ◌+◌, ◌-◌, min, Bool, ◌&&◌, Some, None, List, [], ◌∷◌, ltb, eqb, length, take, drop}
 use Rattle.std.proofs.Math.Seq.{paste}
 use Rattle.terms.specs.Words.{pick}
 use Rattle.lines.specs.declared.Line.{Line}
 use Rattle.lines.specs.declared.Step.{Step}
 use Rattle.lines.specs.Text.{onto, before}
-use Rattle.lines.specs.Calls.{line_of, malformed}
+use Rattle.lines.specs.Calls.{line_of}
 
 abbrev pub line_end : ℕ
 line_end = 10
@@ -36,10 +36,10 @@ line_bytes held count part = pick (eqb count 0) part (take (count + room_for hel
 
 -- a step that gets a line, after which nothing is held; one that gets none
 abbrev pub one_line : Line → ℕ → Step
-one_line line next = record { got = true; line = line; next = next; count = 0 }
+one_line line next = record { line = Some line; next = next; count = 0 }
 
 abbrev pub no_line : ℕ → ℕ → Step
-no_line next count = record { got = false; line = malformed; next = next; count = count }
+no_line next count = record { line = None; next = next; count = count }
 
 -- one step: a line that ends in the block, or the rest of the block, which is then held
 unfoldable pub step_of : List ℕ → ℕ → List ℕ → ℕ → Step

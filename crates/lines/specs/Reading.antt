@@ -1,5 +1,6 @@
 -- An input that comes in blocks, cut anywhere: what a program finds that goes through each block with `next` and ends with `last`.
 use Rattle.std.specs.Prelude.{ℕ, zero, suc, List, [], ◌∷◌, ◌++◌, ltb, length}
+use Rattle.std.specs.Option.{option_to_list}
 use Rattle.terms.specs.Words.{pick}
 use Rattle.lines.specs.declared.Line.{Line}
 use Rattle.lines.specs.declared.Step.{Step}
@@ -12,7 +13,7 @@ pub record Held : Type 0 where
 
 -- a step's line, if it got one, before the lines of the steps behind it
 abbrev pub found : Step → List Line → List Line
-found s lines = pick s.got (s.line ∷ lines) lines
+found s lines = option_to_list s.line ++ lines
 
 abbrev pub step_by : List ℕ → ℕ → Held → Step
 step_by block from h = step_of block from h.bytes h.count

@@ -1,14 +1,12 @@
 -- An arrival on a started board is a step of the argument: suspended until tr, or replenished from now.
 use Prim.Native.Nat.{ℕ, ◌<◌, ◌≤◌}
 use mathlib.Core.Path.{◌≡◌, refl, sym, subst}
-use mathlib.Core.Bool.{false, not}
+use mathlib.Core.Bool.{false}
 use mathlib.Core.List.{List, [], ◌∷◌, ◌++◌}
 use native.Mathlib.Omega.{arith}
 use native.Mathlib.Decide.{dec_lt}
 use lib.Dec.{eqb}
-use borrow.Author.Tests.{eqb-true, not-false, not-true}
 use Rattle.terms.specs.Words.{pick}
-use Rattle.terms.proofs.Tests.{by_test}
 use Rattle.events.specs.Events.{Event, Replenished}
 use Rattle.timing.specs.declared.Figures.{Figures}
 use Rattle.timing.specs.declared.Life.{Life}
@@ -18,10 +16,14 @@ use Rattle.timing.specs.declared.State.TheVariants.{Idle, Ready, Suspended, Spen
 use Rattle.timing.specs.Timing.{tr, in_state, replenished, arrived}
 use Rattle.timing.specs.Timing.Laws.{arrived_later, arrived_now}
 use Rattle.admission.specs.Admission.{slots, slot_of}
+use Rattle.refusals.specs.Refusals as refusals
+use Rattle.refusals.specs.declared.Refusal.{Refusal}
+use Rattle.refusals.specs.declared.Refusal.TheVariants.{WrongPhase, NotInTable, NotIdle, ServerStopped}
 use Rattle.board.specs.declared.Board.{Board}
 use Rattle.board.specs.declared.Outcome.{Outcome}
 use Rattle.board.specs.Board.{life_at, number_of, out, with_life}
-use Rattle.board.specs.Calls.{refuse, standing, answer_to, arrived_in, arrives}
+use Rattle.board.specs.Calls.{refuse, answer_to, arrived_in, arrives}
+use Rattle.board.proofs.Checked.{by_standing}
 use Rattle.guarantee.specs.Step as steps
 use Rattle.promise.proofs.Lawful.{Kept}
 use Rattle.promise.proofs.Look.{view_by}
@@ -32,8 +34,8 @@ module _ (n l : ℕ) (t : List Figures) (w : Kept n l t) (b : Board) (es : List 
   abbrev Arrives : Outcome → Type 0
   Arrives o = Bound n l t w o.board (es ++ pick (eqb (number_of o.answer) 0) (Replenished i b.clock.0 ∷ []) [])
 
-  refused : (k : ℕ) → eqb k 0 ≡ false → Arrives (refuse b k)
-  refused k e = rw e (still n l t w b es B)
+  refused : (why : Refusal) → eqb (refusals.number_of why) 0 ≡ false → Arrives (refuse b why)
+  refused why e = rw e (still n l t w b es B)
 
   module _ (slot : i < slots) (server : i < n) (e : (life_at b i).state ≡ Idle) where
     abbrev x : Life
@@ -67,13 +69,12 @@ module _ (n l : ℕ) (t : List Figures) (w : Kept n l t) (b : Board) (es : List 
   arrives_in : (i < slots) → (i < n) → (s : State) → (life_at b i).state ≡ s → Arrives (arrived_in s b i)
   unfolding arrived_in
   arrives_in slot server Idle e = arrives_idle slot server e
-  arrives_in slot server (Ready s k) e = refused 15 refl
-  arrives_in slot server (Suspended t) e = refused 15 refl
-  arrives_in slot server Spent e = refused 15 refl
-  arrives_in slot server Stopped e = refused 15 refl
+  arrives_in slot server (Ready s k) e = refused NotIdle refl
+  arrives_in slot server (Suspended t) e = refused NotIdle refl
+  arrives_in slot server Spent e = refused NotIdle refl
+  arrives_in slot server Stopped e = refused NotIdle refl
 
   pub arrive_bound : Arrives (arrives b i)
   unfolding arrives
-  arrive_bound = by_test Arrives (not (eqb (standing b i) 0)) (λ e. refused (standing b i) (not-true _ e)) (λ e.
-      let (slot, server) = served n l t w b es B i (eqb-true _ _ (not-false _ e)) in
-      arrives_in slot server (life_at b i).state refl)
+  arrive_bound = by_standing Arrives b i _ (refused WrongPhase refl) (refused NotInTable refl) (refused ServerStopped refl)
+      (λ slot here. arrives_in slot (served n l t w b es B i here) (life_at b i).state refl)

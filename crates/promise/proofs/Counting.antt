@@ -13,8 +13,7 @@ use Rattle.events.specs.Events.{Event, ticks}
 use Rattle.timing.specs.declared.Life.{Life}
 use Rattle.timing.specs.Timing.{due}
 use Rattle.board.specs.declared.Board.{Board}
-use Rattle.board.specs.declared.Choice.{Choice}
-use Rattle.board.specs.declared.Choice.TheVariants.{Nobody, Slot}
+use Rattle.std.specs.Prelude.{Option, Some, None}
 use Rattle.board.specs.Board.{value_of, named, is_slot}
 use Rattle.board.specs.Run.{ticked, runs}
 use Rattle.board.specs.Machine.{made, single}
@@ -34,10 +33,10 @@ module _ (j : ℕ) where
   renewals_none f now (suc n) =
       omega (arith, ticks_both j (renewals f now n) (renewal n (f n) now), renewals_none f now n, renewal_none n (f n) now)
 
-  tick_counts : (b : Board) (c : Choice) → ticks j (tick_told b c) ≡ when (is_slot c j) 1
+  tick_counts : (b : Board) (c : Option ℕ) → ticks j (tick_told b c) ≡ when (is_slot c j) 1
   unfolding tick_told ticks
-  tick_counts b Nobody = renewals_none _ _ _
-  tick_counts b (Slot m) = ap (λ (x : ℕ). when (eqb m j) 1 + x) (renewals_none _ _ _) ∙ omega arith
+  tick_counts b None = renewals_none _ _ _
+  tick_counts b (Some m) = ap (λ (x : ℕ). when (eqb m j) 1 + x) (renewals_none _ _ _) ∙ omega arith
 
   -- one more
   when_more : (x : Bool) (k : ℕ) → when x 1 + when x k ≡ when x (suc k)
@@ -48,11 +47,11 @@ module _ (j : ℕ) where
   when_none true = refl
   when_none false = refl
 
-  ticks_count : (k : ℕ) (b : Board) (c : Choice) → ((i : ℕ) → i < k → named (single b i) ≡ c) → ticks j (ticks_told b k) ≡ when (is_slot c j) k
+  ticks_count : (k : ℕ) (b : Board) (c : Option ℕ) → ((i : ℕ) → i < k → named (single b i) ≡ c) → ticks j (ticks_told b k) ≡ when (is_slot c j) k
   unfolding ticks_told ticks single
   ticks_count zero b c h = when_none (is_slot c j)
   ticks_count (suc k) b c h =
-      let e = ap (λ (d : Choice). ticks j (tick_told b d)) (h 0 (omega arith)) ∙ tick_counts b c in
+      let e = ap (λ (d : Option ℕ). ticks j (tick_told b d)) (h 0 (omega arith)) ∙ tick_counts b c in
       let rest = ticks_count k (ticked b).board c (λ i l. h (suc i) (omega arith)) in
       ticks_both j (tick_told b (named b)) (ticks_told (ticked b).board k) ∙ omega (arith, e, rest) ∙ when_more (is_slot c j) k
 

@@ -16,7 +16,7 @@ use Rattle.timing.specs.Timing.Text.{tr_is, replenished_is, arrived_is, asked_is
 use Rattle.admission.specs.Admission.{slots, figures_of, placed, period_fits, budget_fits, holds_fit, nobody}
 use Rattle.admission.specs.Admission.Text.{load_is, used_is, longest_wait_is, passes_is, judged_is}
 use Rattle.board.specs.declared.Board.{Board}
-use Rattle.board.specs.declared.Choice.TheVariants.{Slot}
+use Rattle.std.specs.Prelude.{Some}
 use Rattle.board.specs.declared.Reason.{Reason}
 use Rattle.board.specs.declared.Reason.TheVariants.{Whole, Changed, Reached}
 use Rattle.board.specs.declared.Answer.{Answer}
@@ -70,13 +70,13 @@ holding n q = record { state = Ready true (On 0 (ticks n)); left = ticks q; dead
 abbrev Ticks : Board → Board → Reason → List Event → Type 0
 Ticks b b' why es = (ticked b ≡ record { board = b'; reason = why }) × (tick_told b (named b) ≡ es)
 
-tick_of : (b b₁ b₂ : Board) (m : ℕ) (w₁ w : Reason) (es : List Event) → named b ≡ Slot m → worked b m ≡ b₁ → reached b m ≡ w₁
+tick_of : (b b₁ b₂ : Board) (m : ℕ) (w₁ w : Reason) (es : List Event) → named b ≡ Some m → worked b m ≡ b₁ → reached b m ≡ w₁
     → ticked_to b₁ w₁ ≡ record { board = b₂; reason = w } → renewals (ran_lives b m) (later b.clock (ticks 1)) slots ≡ es → Ticks b b₂ w (Ran m ∷ es)
 unfolding ticked ticked_by tick_told
 tick_of b b₁ b₂ m w₁ w es n k r t e = (simp (n, k, r, t), simp (n, e))
 
 -- a tick after which nobody is replenished
-plain : (b b' : Board) (m : ℕ) (w : Reason) → named b ≡ Slot m → worked b m ≡ b' → reached b m ≡ w
+plain : (b b' : Board) (m : ℕ) (w : Reason) → named b ≡ Some m → worked b m ≡ b' → reached b m ≡ w
     → ticked_to b' w ≡ record { board = b'; reason = w } → renewals (ran_lives b m) (later b.clock (ticks 1)) slots ≡ [] → Ticks b b' w (Ran m ∷ [])
 plain b b' m w n k r t e = tick_of b b' b' m w w [] n k r t e
 

@@ -13,12 +13,12 @@ use Rattle.resources.proofs.Laws.{empty_has}
 use Rattle.events.specs.Events.{Event}
 use Rattle.timing.specs.declared.Figures.{Figures}
 use Rattle.timing.specs.Timing.{begun}
-use Rattle.admission.specs.declared.Judged.{Judged}
 use Rattle.admission.specs.Admission.{slots, judged}
+use Rattle.refusals.specs.declared.Refusal.{Refusal}
+use Rattle.refusals.specs.declared.Refusal.TheVariants.{WrongPhase}
 use Rattle.board.specs.declared.Board.{Board}
 use Rattle.board.specs.declared.Outcome.{Outcome}
-use Rattle.board.specs.declared.Choice.{Choice}
-use Rattle.board.specs.declared.Choice.TheVariants.{Nobody, Slot}
+use Rattle.std.specs.Prelude.{Option, Some, None, Result, Ok, Err}
 use Rattle.board.specs.Board.{number_of}
 use Rattle.board.specs.Calls.{refuse, empty, fresh, opened, commissioning, vacancy, admitted_as, admitted_in, admitted, started, standing, arrives, done_by, locks, unlocks}
 use Rattle.board.specs.Run.{runs}
@@ -74,14 +74,15 @@ module _ (b : Board) (p q : ℕ) (hs : List ℕ) where
   abbrev Keeps : Outcome → Type 0
   Keeps o = eqb (number_of o.answer) 0 ≡ false → o.board ≡ b
 
-  admit_as : (i : ℕ) (j : Judged) → Keeps (admitted_as b i j)
+  admit_as : (i : ℕ) (judged : Result Figures Refusal) → Keeps (admitted_as b i judged)
   unfolding admitted_as
-  admit_as i j = either Keeps (eqb j.number 0) (λ e. absurd (not_both refl e)) (λ e. refl)
+  admit_as i (Ok f) e = absurd (not_both refl e)
+  admit_as i (Err why) e = refl
 
-  admit_in : (c : Choice) → Keeps (admitted_in b c p q hs)
+  admit_in : (c : Option ℕ) → Keeps (admitted_in b c p q hs)
   unfolding admitted_in
-  admit_in Nobody = λ e. refl
-  admit_in (Slot i) = admit_as i (judged b.table i b.frame.0 p q hs)
+  admit_in None = λ e. refl
+  admit_in (Some i) = admit_as i (judged b.table i b.frame.0 p q hs)
 
   admit_refused : Keeps (admitted b p q hs)
   unfolding admitted
@@ -89,27 +90,27 @@ module _ (b : Board) (p q : ℕ) (hs : List ℕ) where
 
 -- before start, calls of servers are refused
 module _ (b : Board) (e : b.running ≡ false) where
-  standing_early : (i : ℕ) → standing b i ≡ 1
+  standing_early : (i : ℕ) → standing b i ≡ Err WrongPhase
   unfolding standing
   standing_early i = rw e refl
 
-  arrive_early : (i : ℕ) → arrives b i ≡ refuse b 1
+  arrive_early : (i : ℕ) → arrives b i ≡ refuse b WrongPhase
   unfolding arrives
   arrive_early i = rw (standing_early i) refl
 
-  done_early : (i : ℕ) → done_by b i ≡ refuse b 1
+  done_early : (i : ℕ) → done_by b i ≡ refuse b WrongPhase
   unfolding done_by
   done_early i = rw (standing_early i) refl
 
-  pub lock_early : (i r : ℕ) → locks b i r ≡ refuse b 1
+  pub lock_early : (i r : ℕ) → locks b i r ≡ refuse b WrongPhase
   unfolding locks
   lock_early i r = rw (standing_early i) refl
 
-  unlock_early : (i : ℕ) → unlocks b i ≡ refuse b 1
+  unlock_early : (i : ℕ) → unlocks b i ≡ refuse b WrongPhase
   unfolding unlocks
   unlock_early i = rw (standing_early i) refl
 
-  pub run_early : (n : ℕ) → runs b n ≡ refuse b 1
+  pub run_early : (n : ℕ) → runs b n ≡ refuse b WrongPhase
   unfolding runs
   run_early n = rw e refl
 
@@ -119,11 +120,11 @@ module _ (b : Board) (e : b.running ≡ true) where
   unfolding commissioning
   late = rw e refl
 
-  admit_late : (p q : ℕ) (hs : List ℕ) → admitted b p q hs ≡ refuse b 1
+  admit_late : (p q : ℕ) (hs : List ℕ) → admitted b p q hs ≡ refuse b WrongPhase
   unfolding admitted
   admit_late p q hs = rw late refl
 
-  start_late : started b ≡ refuse b 1
+  start_late : started b ≡ refuse b WrongPhase
   unfolding started
   start_late = rw late refl
 

@@ -24,12 +24,15 @@ use Rattle.timing.specs.Timing.{hold, largest_hold, in_state, tr, replenished, a
 use Rattle.timing.specs.Timing.Laws.{largest_hold_upper, largest_hold_one, asked_granted, asked_later, asked_renewed}
 use Rattle.quantity.specs.Quantity.{ticks}
 use Rattle.admission.specs.Admission.{slots, slot_of}
+use Rattle.refusals.specs.Refusals as refusals
+use Rattle.refusals.specs.declared.Refusal.{Refusal}
+use Rattle.refusals.specs.declared.Refusal.TheVariants.{WrongPhase, NotInTable, NotNamed, NotUsed, HoldsLock, ResourceClosed, ServerStopped}
 use Rattle.board.specs.declared.Board.{Board}
 use Rattle.board.specs.declared.Outcome.{Outcome}
-use Rattle.board.specs.declared.Choice.{Choice}
-use Rattle.board.specs.declared.Choice.TheVariants.{Nobody, Slot}
+use Rattle.std.specs.Prelude.{Option, Some, None}
 use Rattle.board.specs.Board.{figures_at, life_at, number_of, named, is_slot}
-use Rattle.board.specs.Calls.{refuse, standing, locked_by, locking, lock_free, lock_with, lock_ready, lock_in, locks}
+use Rattle.board.specs.Calls.{refuse, locked_by, locking, lock_free, lock_with, lock_ready, lock_in, locks}
+use Rattle.board.proofs.Checked.{by_standing}
 use Rattle.guarantee.specs.Board.{Has}
 use Rattle.guarantee.specs.Step.{none, takes}
 use Rattle.guarantee.specs.Step as steps
@@ -38,12 +41,12 @@ use Rattle.guarantee.proofs.Untaken.{untaken}
 use Rattle.promise.proofs.Lawful.{Kept, lawful_table}
 use Rattle.promise.proofs.Look.{look, view_by}
 use Rattle.promise.proofs.Naming.{resource_of, names}
-use Rattle.promise.proofs.Bound.{standing_no, Bound, sound_bound, still, served, figures_are, tr_same, renewed_view, renewed_date, moved, T}
+use Rattle.promise.proofs.Bound.{Bound, sound_bound, still, served, figures_are, tr_same, renewed_view, renewed_date, moved, T}
 
 -- who is named
-pub is_slot_lem : (c : Choice) (i : ℕ) → is_slot c i ≡ true → c ≡ Slot i
-is_slot_lem Nobody i e = absurd (not_both e refl)
-is_slot_lem (Slot j) i e = ap Slot (eqb-true j i e)
+pub is_slot_lem : (c : Option ℕ) (i : ℕ) → is_slot c i ≡ true → c ≡ Some i
+is_slot_lem None i e = absurd (not_both e refl)
+is_slot_lem (Some j) i e = ap Some (eqb-true j i e)
 
 module _ (n l : ℕ) (t : List Figures) (w : Kept n l t) (b : Board) (es : List Event) (B : Bound n l t w b es) (i r : ℕ) where
   -- what a lock's outcome says, by its number; and it is not 14
@@ -52,11 +55,11 @@ module _ (n l : ℕ) (t : List Figures) (w : Kept n l t) (b : Board) (es : List 
       Bound n l t w o.board (es ++ pick (eqb (number_of o.answer) 21) (Replenished i (tr (figures_at b i) (life_at b i)).0 ∷ []) [])
       × (eqb (number_of o.answer) 14 ≡ false)
 
-  refused : (k : ℕ) → eqb k 21 ≡ false → eqb k 14 ≡ false → Locks (refuse b k)
-  refused k e f = (rw e (still n l t w b es B), f)
+  refused : (why : Refusal) → eqb (refusals.number_of why) 21 ≡ false → eqb (refusals.number_of why) 14 ≡ false → Locks (refuse b why)
+  refused why e f = (rw e (still n l t w b es B), f)
 
   -- what the named server uses and does not hold is not locked
-  not_locked : (s : Bool) → (life_at b i).state ≡ Ready s Free → named b ≡ Slot i → 0 < (hold (slot_of t i) r).0 → has b.locked r ≡ true → ⊥
+  not_locked : (s : Bool) → (life_at b i).state ≡ Ready s Free → named b ≡ Some i → 0 < (hold (slot_of t i) r).0 → has b.locked r ≡ true → ⊥
   not_locked s e name u k =
       let (j, h) = (sound_bound n l t w b es B).inv.locks.holder r k in
       go j h (ℕ_discrete j i)
@@ -67,7 +70,7 @@ module _ (n l : ℕ) (t : List Figures) (w : Kept n l t) (b : Board) (es : List 
           let (x, o) = has_holds ((look b).view j) r h in
           untaken (T n l t w) (lawful_table n l t w) (sound_bound n l t w b es B) i j r x o ne (names n l t w b B.table B.long i name) u
 
-  module _ (slot : i < slots) (server : i < n) (s : Bool) (e : (life_at b i).state ≡ Ready s Free) (name : named b ≡ Slot i) (u : 0 < (hold (slot_of t i) r).0)
+  module _ (slot : i < slots) (server : i < n) (s : Bool) (e : (life_at b i).state ≡ Ready s Free) (name : named b ≡ Some i) (u : 0 < (hold (slot_of t i) r).0)
       (unlocked : has b.locked r ≡ false) where
     abbrev f : Figures
     f = slot_of t i
@@ -129,11 +132,11 @@ module _ (n l : ℕ) (t : List Figures) (w : Kept n l t) (b : Board) (es : List 
         go (yes h) (no z) = lock_renewed h (omega arith)
 
   module _ (slot : i < slots) (server : i < n) where
-    lock_free_lem : (s : Bool) → (life_at b i).state ≡ Ready s Free → named b ≡ Slot i → Locks (lock_free b i r)
+    lock_free_lem : (s : Bool) → (life_at b i).state ≡ Ready s Free → named b ≡ Some i → Locks (lock_free b i r)
     unfolding lock_free
     lock_free_lem s e name =
-        by_test Locks (eqb (hold (figures_at b i) r).0 0) (λ q. refused 10 refl refl) (λ q.
-        by_test Locks (has b.closed r) (λ c. refused 13 refl refl) (λ c.
+        by_test Locks (eqb (hold (figures_at b i) r).0 0) (λ q. refused NotUsed refl refl) (λ q.
+        by_test Locks (has b.closed r) (λ c. refused ResourceClosed refl refl) (λ c.
         by_test Locks (has b.locked r) (λ k. absurd (not_locked s e name (much q) k)) (λ k.
         subst (λ (g : Figures). Locks (locking b i r (asked g (life_at b i) r b.clock))) (sym (figures_are n l t w b es B i))
         (lock_ruled slot server s e name (much q) k))))
@@ -149,19 +152,18 @@ module _ (n l : ℕ) (t : List Figures) (w : Kept n l t) (b : Board) (es : List 
 
     lock_in_lem : (s : State) → (life_at b i).state ≡ s → Locks (lock_in s b i r)
     unfolding lock_in lock_ready lock_with
-    lock_in_lem (Ready s (On q k)) e = by_test Locks (not (is_slot (named b) i)) (λ z. refused 9 refl refl) (λ z. refused 11 refl refl)
+    lock_in_lem (Ready s (On q k)) e = by_test Locks (not (is_slot (named b) i)) (λ z. refused NotNamed refl refl) (λ z. refused HoldsLock refl refl)
     lock_in_lem (Ready s Free) e =
-        by_test Locks (not (is_slot (named b) i)) (λ z. refused 9 refl refl) (λ z. lock_free_lem s e (is_slot_lem (named b) i (not-false _ z)))
-    lock_in_lem Idle e = refused 9 refl refl
-    lock_in_lem (Suspended t) e = refused 9 refl refl
-    lock_in_lem Spent e = refused 9 refl refl
-    lock_in_lem Stopped e = refused 9 refl refl
+        by_test Locks (not (is_slot (named b) i)) (λ z. refused NotNamed refl refl) (λ z. lock_free_lem s e (is_slot_lem (named b) i (not-false _ z)))
+    lock_in_lem Idle e = refused NotNamed refl refl
+    lock_in_lem (Suspended t) e = refused NotNamed refl refl
+    lock_in_lem Spent e = refused NotNamed refl refl
+    lock_in_lem Stopped e = refused NotNamed refl refl
 
   lock_walk : Locks (locks b i r)
   unfolding locks
-  lock_walk = by_test Locks (not (eqb (standing b i) 0)) (λ e. refused (standing b i) (standing_no b i 21 refl refl refl refl) (standing_no b i 14 refl refl refl refl)) (λ e.
-      let (slot, server) = served n l t w b es B i (eqb-true _ _ (not-false _ e)) in
-      lock_in_lem slot server (life_at b i).state refl)
+  lock_walk = by_standing Locks b i _ (refused WrongPhase refl refl) (refused NotInTable refl refl) (refused ServerStopped refl refl)
+      (λ slot here. lock_in_lem slot (served n l t w b es B i here) (life_at b i).state refl)
 
   pub lock_bound : Bound n l t w (locks b i r).board
       (es ++ pick (eqb (number_of (locks b i r).answer) 21) (Replenished i (tr (figures_at b i) (life_at b i)).0 ∷ []) [])

@@ -16,7 +16,7 @@ use Rattle.timing.specs.Timing.{hold, present, is_started}
 use Rattle.timing.specs.Timing.Laws.{hold_outside}
 use Rattle.admission.specs.Admission.{slots, slot_of, hold_of, in_table}
 use Rattle.board.specs.declared.Board.{Board}
-use Rattle.board.specs.declared.Choice.TheVariants.{Nobody, Slot}
+use Rattle.std.specs.Prelude.{Some, None}
 use Rattle.board.specs.Board.{figures_at, life_at, uses, ceiling, clears, named}
 use Rattle.board.proofs.First.{Leads}
 use Rattle.board.proofs.Named.{First_of, Goes, Held, Why, itself, instead, named_why, nobody_unready}
@@ -102,7 +102,7 @@ module _ (n l : ℕ) (t : List Figures) (w : Kept n l t) where
           ),
         )
 
-    pub names : (m : ℕ) → named b ≡ Slot m → Named (table_of n l t) (look b) m
+    pub names : (m : ℕ) → named b ≡ Some m → Named (table_of n l t) (look b) m
     unfolding Goes Held
     names m e = by (named_why b m e)
       where
@@ -118,7 +118,7 @@ module _ (n l : ℕ) (t : List Figures) (w : Kept n l t) where
             ceilings.instead f r (started_in _ _ (life_at b m).state k.one) (first_started m k) (fresh_in _ _ (life_at b f).state h.one x) (first_ready f h) a c
 
     -- with nobody named none is ready: behind each lock stands a started holder
-    pub names_nobody : Reached (table_of n l t) (look b) → named b ≡ Nobody → (j : ℕ) → abstract.Ready ((look b).view j) → ⊥
+    pub names_nobody : Reached (table_of n l t) (look b) → named b ≡ None → (j : ℕ) → abstract.Ready ((look b).view j) → ⊥
     names_nobody reached e j a =
         not_both (ready_out _ _ (life_at b j).state a) (nobody_unready b holder e j (slot_of_ready b j long a))
       where

@@ -18,10 +18,11 @@ use Rattle.timing.specs.declared.Lock.TheVariants.{Free, On}
 use Rattle.timing.specs.declared.State.{State}
 use Rattle.timing.specs.declared.State.TheVariants.{Idle, Ready, Suspended, Spent, Stopped}
 use Rattle.timing.specs.Timing.{hold, in_state}
+use Rattle.refusals.specs.declared.Refusal.{Refusal}
+use Rattle.refusals.specs.declared.Refusal.TheVariants.{WrongPhase, RunOutOfRange, PastClockEnd}
 use Rattle.board.specs.declared.Board.{Board}
 use Rattle.board.specs.declared.Outcome.{Outcome}
-use Rattle.board.specs.declared.Choice.{Choice}
-use Rattle.board.specs.declared.Choice.TheVariants.{Nobody, Slot}
+use Rattle.std.specs.Prelude.{Option, Some, None}
 use Rattle.board.specs.Board.{figures_at, life_at, number_of, value_of, named}
 use Rattle.board.specs.Calls.{refuse}
 use Rattle.board.specs.Run.{ticked_to, ticked_by, ticked, passes, stopping, run_with, run_in, run_by, runs}
@@ -44,9 +45,9 @@ module _ (n l : ℕ) (t : List Figures) (w : Kept n l t) where
   unfolding ticked ticked_by ticked_to tick_told Within
   one_bound b es B room h = go (named b) refl
     where
-      go : (c : Choice) → named b ≡ c → Bound n l t w (ticked_by b c).board (es ++ tick_told b c)
-      go Nobody e = pause_bound n l t w b es B room e
-      go (Slot m) e =
+      go : (c : Option ℕ) → named b ≡ c → Bound n l t w (ticked_by b c).board (es ++ tick_told b c)
+      go None e = pause_bound n l t w b es B room e
+      go (Some m) e =
           tick_bound n l t w b es B room m e (λ s r k q. omega (arith, h m s r k e q, ap (λ (f : Figures). (hold f r).0) (figures_are n l t w b es B m)))
 
   -- as many ticks as pass while nobody holds for too long
@@ -76,14 +77,14 @@ module _ (n l : ℕ) (t : List Figures) (w : Kept n l t) where
     abbrev Else : Outcome → Type 0
     Else o = eqb (number_of o.answer) 0 ≡ false → Bound n l t w o.board (es ++ [])
 
-    refused : (m : ℕ) → Else (refuse b m)
-    refused m e = still n l t w b es B
+    refused : (why : Refusal) → Else (refuse b why)
+    refused why e = still n l t w b es B
 
     passed : Else (passes b k)
     unfolding passes
     passed e = absurd (not_both refl e)
 
-    stopped : (m : ℕ) → named b ≡ Slot m → (s : Bool) (r : ℕ) (h : Length) → (life_at b m).state ≡ Ready s (On r h) → Else (stopping b m r)
+    stopped : (m : ℕ) → named b ≡ Some m → (s : Bool) (r : ℕ) (h : Length) → (life_at b m).state ≡ Ready s (On r h) → Else (stopping b m r)
     unfolding stopping
     stopped m name s r h e _ =
         moved n l t w b es B m (named_below b m name) (in_state (life_at b m) Stopped) (without b.locked r) (with b.closed r) (drops r) _ _ []
@@ -91,7 +92,7 @@ module _ (n l : ℕ) (t : List Figures) (w : Kept n l t) where
         (without_same b.locked r, λ j ne. without_other b.locked r j ne) (without_range b.locked r B.locked) (with_range b.closed r B.closed)
         (B.dates m)
 
-    run_in_lem : (m : ℕ) → named b ≡ Slot m → (s : State) → (life_at b m).state ≡ s → Else (run_in s b m k)
+    run_in_lem : (m : ℕ) → named b ≡ Some m → (s : State) → (life_at b m).state ≡ s → Else (run_in s b m k)
     unfolding run_in run_with
     run_in_lem m name (Ready s Free) e = passed
     run_in_lem m name (Ready s (On r h)) e = either Else (leb (hold (figures_at b m) r).0 h.0) (stopped m name s r h e) passed
@@ -100,16 +101,16 @@ module _ (n l : ℕ) (t : List Figures) (w : Kept n l t) where
     run_in_lem m name Spent e = passed
     run_in_lem m name Stopped e = passed
 
-    run_by_lem : (c : Choice) → named b ≡ c → Else (run_by b c k)
+    run_by_lem : (c : Option ℕ) → named b ≡ c → Else (run_by b c k)
     unfolding run_by
-    run_by_lem Nobody e = passed
-    run_by_lem (Slot m) e = run_in_lem m e (life_at b m).state refl
+    run_by_lem None e = passed
+    run_by_lem (Some m) e = run_in_lem m e (life_at b m).state refl
 
     run_else : Else (runs b k)
     unfolding runs
     run_else =
-        either Else (not b.running) (refused 1) (either Else (not (leb 1 k && leb k longest_run)) (refused 17)
-        (either Else (ltb clock_end (b.clock.0 + k)) (refused 18) (run_by_lem (named b) refl)))
+        either Else (not b.running) (refused WrongPhase) (either Else (not (leb 1 k && leb k longest_run)) (refused RunOutOfRange)
+        (either Else (ltb clock_end (b.clock.0 + k)) (refused PastClockEnd) (run_by_lem (named b) refl)))
 
     pub run_bound : Runs (runs b k)
     run_bound = go (eqb (number_of (runs b k).answer) 0) refl

@@ -17,4 +17,4 @@ commissioned (opening b frame e) = history.opening b frame e
 commissioned (admission {n} {b} p q hs w len e) = calling (commissioned w) (Admit p q hs) refl
 
 pub read_in : ReadIn
-read_in sheet e = commissioned (accepted_board sheet e)
+read_in sheet b e = let (n, form, c) = accepted_board sheet e in commissioned c

@@ -30,8 +30,7 @@ use Rattle.admission.specs.Admission.{slots}
 use Rattle.board.specs.declared.Board.{Board}
 use Rattle.board.specs.declared.Outcome.{Outcome}
 use Rattle.board.specs.declared.Answer.TheVariants as answer
-use Rattle.board.specs.declared.Choice.{Choice}
-use Rattle.board.specs.declared.Choice.TheVariants.{Nobody, Slot}
+use Rattle.std.specs.Prelude.{Option, Some, None}
 use Rattle.board.specs.declared.Ran.{Ran as Counted}
 use Rattle.board.specs.declared.Reason.TheVariants.{Changed}
 use Rattle.board.specs.Board.{figures_at, life_at, out, number_of, value_of, named}
@@ -56,7 +55,7 @@ use Rattle.promise.proofs.Rousing.{roused_life}
 use Rattle.promise.proofs.Histories.{Stage, unstarted, running, stage, begun_at, run_early}
 
 -- nobody is named exactly if none is ready
-unready_after : (b : Board) (es : List Event) → History b es → named b ≡ Nobody → (j : ℕ) → is_ready (life_at b j).state ≡ false
+unready_after : (b : Board) (es : List Event) → History b es → named b ≡ None → (j : ℕ) → is_ready (life_at b j).state ≡ false
 unready_after b es h e j = go (stage h)
   where
     go : Stage b es → is_ready (life_at b j).state ≡ false
@@ -71,12 +70,12 @@ nobody_named b es h = (unready_after b es h, λ none. why_nobody b (unready (λ 
 pub somebody_runs : SomebodyRuns
 somebody_runs b es h j a = go (named b) refl
   where
-    go : (c : Choice) → named b ≡ c → (m : ℕ) × (named b ≡ Slot m) × (is_ready (life_at b m).state ≡ true)
-    go Nobody e = absurd (not_both a (unready_after b es h e j))
-    go (Slot m) e = (m, e, named_ready b m e)
+    go : (c : Option ℕ) → named b ≡ c → (m : ℕ) × (named b ≡ Some m) × (is_ready (life_at b m).state ≡ true)
+    go None e = absurd (not_both a (unready_after b es h e j))
+    go (Some m) e = (m, e, named_ready b m e)
 
 -- the named server has budget left: with no lock always, with one since its hold is not reached and the budget covers the rest of it
-bound_left : (n l : ℕ) (t : List Figures) (w : Kept n l t) (b : Board) (es : List Event) → Bound n l t w b es → Within b → (m : ℕ) → named b ≡ Slot m
+bound_left : (n l : ℕ) (t : List Figures) (w : Kept n l t) (b : Board) (es : List Event) → Bound n l t w b es → Within b → (m : ℕ) → named b ≡ Some m
     → (s : Bool) (k : Lock) → (life_at b m).state ≡ Ready s k → 0 < (life_at b m).left.0
 unfolding Within
 bound_left n l t w b es B h m name s Free e =
@@ -87,7 +86,7 @@ bound_left n l t w b es B h m name s (On r k) e =
     omega (arith, covers, h m s r k name e, ap (λ (f : Figures). (hold f r).0) (figures_are n l t w b es B m))
 
 -- a tick that passes with m named and ready
-module _ (b : Board) (m : ℕ) (name : named b ≡ Slot m) (s : Bool) (k : Lock) (e : (life_at b m).state ≡ Ready s k) where
+module _ (b : Board) (m : ℕ) (name : named b ≡ Some m) (s : Bool) (k : Lock) (e : (life_at b m).state ≡ Ready s k) where
   abbrev x : Life
   x = life_at b m
 
@@ -109,11 +108,11 @@ module _ (b : Board) (m : ℕ) (name : named b ≡ Slot m) (s : Bool) (k : Lock)
   unfolding ticked ticked_by ticked_to
   ticked_life h =
       let c = worked b m in
-      ap (λ (q : Choice). life_at (ticked_by b q).board m) name ∙ roused_life c m (named_below b m name)
+      ap (λ (q : Option ℕ). life_at (ticked_by b q).board m) name ∙ roused_life c m (named_below b m name)
       ∙ ap (λ (y : Life). woken (figures_at c m) y c.clock) (worked_life h) ∙ woken_ready (figures_at c m) (ran_with x k) c.clock true (held_on k) refl
 
 -- who has held for less than it may is not stopped
-not_stopped : (b : Board) (m : ℕ) → named b ≡ Slot m
+not_stopped : (b : Board) (m : ℕ) → named b ≡ Some m
     → ((s : Bool) (r : ℕ) (h : Length) → (life_at b m).state ≡ Ready s (On r h) → h.0 < (hold (figures_at b m) r).0) → Within b
 unfolding Within
 not_stopped b m name less i s r h e q =
@@ -125,12 +124,12 @@ unfolding single
 passes_one b m on room name less =
     run_one b (record { runs_on = on; low = omega arith; high = omega arith; in_time = room; within = not_stopped b m name less })
 
-told_one : (b : Board) (m : ℕ) → named b ≡ Slot m → number_of (runs b 1).answer ≡ 0 → (rest : List Event) × (told b (Run 1) ≡ Ran m ∷ rest)
+told_one : (b : Board) (m : ℕ) → named b ≡ Some m → number_of (runs b 1).answer ≡ 0 → (rest : List Event) × (told b (Run 1) ≡ Ran m ∷ rest)
 unfolding told made ticks_told tick_told
 told_one b m name z = (
   renewals (ran_lives b m) (later b.clock (ticks 1)) slots ++ [],
   ap (λ (o : Outcome). pick (eqb (number_of o.answer) 0) (ticks_told b (value_of o.answer)) []) (run_one b (checked b 1 z))
-      ∙ ap (λ (c : Choice). tick_told b c ++ []) name,
+      ∙ ap (λ (c : Option ℕ). tick_told b c ++ []) name,
 )
 
 pub takes : Takes
@@ -200,7 +199,7 @@ module _ (b : Board) (m n : ℕ) (u : Undisturbed b m (suc (suc n))) where
   goes =
       let (s, k, e) = ready_is (life_at b m).state (named_ready b m u.name) in
       let quiet : any_due (worked b m) ≡ false = ⊎_elim (λ a. let (j, h, d) = some_out _ slots a in absurd (not_both d (none_comes s k e j))) (λ a. a) (true_or_false (any_due (worked b m))) in
-      ap (λ (c : Choice). goes_on (ticked_by b c).reason) u.name ∙ ap (λ (x : Bool). goes_on (pick x Changed (reached b m))) quiet ∙ goes_reached s k e
+      ap (λ (c : Option ℕ). goes_on (ticked_by b c).reason) u.name ∙ ap (λ (x : Bool). goes_on (pick x Changed (reached b m))) quiet ∙ goes_reached s k e
 
   -- the board after it
   abbrev d : Board

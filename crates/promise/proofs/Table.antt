@@ -3,10 +3,10 @@ use Prim.Native.Nat.{ℕ, zero, suc, ◌+◌}
 use mathlib.Core.Path.{◌≡◌, refl, ◌∙◌}
 use mathlib.Core.Bool.{Bool, true, false, not}
 use Rattle.terms.proofs.Tests.{either}
+use Rattle.refusals.specs.declared.Refusal.{Refusal}
 use Rattle.board.specs.declared.Board.{Board}
 use Rattle.board.specs.declared.Outcome.{Outcome}
-use Rattle.board.specs.declared.Choice.{Choice}
-use Rattle.board.specs.declared.Choice.TheVariants.{Nobody, Slot}
+use Rattle.std.specs.Prelude.{Option, Some, None}
 use Rattle.board.specs.Board.{named, out, with_life, with_sets}
 use Rattle.board.specs.Calls.{refuse, started, commissioning, arrives, done_by, locks, unlocks}
 use Rattle.board.specs.Run.{any_due, roused, worked, paused, ticked_to, ticked_by, ticked, goes_on, ran_from, passes, runs}
@@ -29,10 +29,10 @@ roused_same : (b : Board) → Same b (roused b)
 unfolding roused
 roused_same b = either (λ (d : Board). Same b d) (any_due b) (refl, refl) (refl, refl)
 
-ticked_by_same : (b : Board) (c : Choice) → Same b (ticked_by b c).board
+ticked_by_same : (b : Board) (c : Option ℕ) → Same b (ticked_by b c).board
 unfolding ticked_by ticked_to worked paused
-ticked_by_same b Nobody = roused_same (paused b)
-ticked_by_same b (Slot m) = roused_same (worked b m)
+ticked_by_same b None = roused_same (paused b)
+ticked_by_same b (Some m) = roused_same (worked b m)
 
 ticked_same : (b : Board) → Same b (ticked b).board
 unfolding ticked
@@ -52,8 +52,8 @@ module _ (b : Board) where
   Stays o = Same b o.board
 
   -- the four ways in which a call ends
-  refused : (n : ℕ) → Stays (refuse b n)
-  refused n = (refl, refl)
+  refused : (why : Refusal) → Stays (refuse b why)
+  refused why = (refl, refl)
 
   alive : (i : ℕ) (l : Life) (a : Answer) → Stays (out (with_life b i l) a)
   unfolding with_life

@@ -27,7 +27,7 @@ use Rattle.timing.specs.Timing.{begun, hold, is_ready, in_state, settled, woken,
 use Rattle.timing.specs.Timing.Laws.{woken_idle, ran_ready}
 use Rattle.admission.specs.Admission.{slots, slot_of, period_of}
 use Rattle.board.specs.declared.Board.{Board}
-use Rattle.board.specs.declared.Choice.TheVariants.{Nobody, Slot}
+use Rattle.std.specs.Prelude.{Some, None}
 use Rattle.board.specs.Board.{figures_at, life_at, next, named}
 use Rattle.board.specs.Run.{roused, worked, paused}
 use Rattle.board.specs.Events.{run_out, renewal, renewals, ran_lives}
@@ -140,7 +140,7 @@ module _ (n l : ℕ) (t : List Figures) (w : Kept n l t) (b : Board) (es : List 
         }
 
   -- nobody is named: only the clock moves
-  pub pause_bound : named b ≡ Nobody → Bound n l t w (roused (paused b)) (es ++ renewals (life_at b) now slots)
+  pub pause_bound : named b ≡ None → Bound n l t w (roused (paused b)) (es ++ renewals (life_at b) now slots)
   unfolding paused
   pause_bound e =
       let (step, says) = pauses (T n l t w) (look b) (half b.lives (life_at b) between) (look (roused (paused b))) (λ j. renewal j (life_at b j) now)
@@ -158,7 +158,7 @@ module _ (n l : ℕ) (t : List Figures) (w : Kept n l t) (b : Board) (es : List 
       }
 
   -- the named server's tick
-  module _ (m : ℕ) (name : named b ≡ Slot m) (server : m < n) where
+  module _ (m : ℕ) (name : named b ≡ Some m) (server : m < n) where
     abbrev x : Life
     x = life_at b m
 
@@ -274,7 +274,7 @@ module _ (n l : ℕ) (t : List Figures) (w : Kept n l t) (b : Board) (es : List 
         between = worked_between r s k e slot
 
   -- somebody is named, and does not hold for longer than it may
-  pub tick_bound : (m : ℕ) → named b ≡ Slot m → ((s : Bool) (r : ℕ) (k : Length) → (life_at b m).state ≡ Ready s (On r k) → k.0 < (hold (slot_of t m) r).0)
+  pub tick_bound : (m : ℕ) → named b ≡ Some m → ((s : Bool) (r : ℕ) (k : Length) → (life_at b m).state ≡ Ready s (On r k) → k.0 < (hold (slot_of t m) r).0)
       → Bound n l t w (roused (worked b m)) (es ++ Ran m ∷ renewals (ran_lives b m) now slots)
   tick_bound m name within = go (life_at b m).state refl (named_ready b m name)
     where

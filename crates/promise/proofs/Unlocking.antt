@@ -6,7 +6,7 @@ use mathlib.Core.List.{List, [], ◌++◌}
 use native.Mathlib.Omega.{arith}
 use native.Mathlib.Decide.{dec_lt}
 use lib.Dec.{eqb}
-use borrow.Author.Tests.{eqb-true, not-false, not-true, lt-ltb, le-ltb, eq-eqb, ne_eqb}
+use borrow.Author.Tests.{lt-ltb, le-ltb, eq-eqb, ne_eqb}
 use Rattle.terms.specs.Words.{pick}
 use Rattle.resources.specs.Resources.{without}
 use Rattle.resources.proofs.Laws.{without_same, without_other, without_range}
@@ -21,11 +21,15 @@ use Rattle.timing.specs.Timing.{in_state, replenished, settled, due}
 use Rattle.timing.specs.Timing.Laws.{settled_spent, settled_renewed, settled_left}
 use Rattle.quantity.specs.declared.Length.{Length}
 use Rattle.admission.specs.Admission.{slots, slot_of}
+use Rattle.refusals.specs.Refusals as refusals
+use Rattle.refusals.specs.declared.Refusal.{Refusal}
+use Rattle.refusals.specs.declared.Refusal.TheVariants.{WrongPhase, NotInTable, NotNamed, HoldsNone, ServerStopped}
 use Rattle.board.specs.declared.Board.{Board}
 use Rattle.board.specs.declared.Outcome.{Outcome}
 use Rattle.board.specs.Board.{life_at, number_of, with_sets, named, is_slot}
-use Rattle.board.specs.Calls.{refuse, standing, unlocking, unlock_with, unlock_ready, unlock_in, unlocks}
+use Rattle.board.specs.Calls.{refuse, unlocking, unlock_with, unlock_ready, unlock_in, unlocks}
 use Rattle.board.specs.Events.{run_out, renewal}
+use Rattle.board.proofs.Checked.{by_standing}
 use Rattle.guarantee.specs.Step.{drops}
 use Rattle.guarantee.specs.Step as steps
 use Rattle.promise.proofs.Lawful.{Kept}
@@ -43,8 +47,8 @@ module _ (n l : ℕ) (t : List Figures) (w : Kept n l t) (b : Board) (es : List 
   abbrev Unlocks : Outcome → Type 0
   Unlocks o = Bound n l t w o.board (es ++ pick (eqb (number_of o.answer) 0) tells [])
 
-  refused : (k : ℕ) → eqb k 0 ≡ false → Unlocks (refuse b k)
-  refused k e = rw e (still n l t w b es B)
+  refused : (why : Refusal) → eqb (refusals.number_of why) 0 ≡ false → Unlocks (refuse b why)
+  refused why e = rw e (still n l t w b es B)
 
   module _ (slot : i < slots) (server : i < n) (s : Bool) (r : ℕ) (k : Length) (e : x.state ≡ Ready s (On r k)) where
     abbrev f : Figures
@@ -97,16 +101,15 @@ module _ (n l : ℕ) (t : List Figures) (w : Kept n l t) (b : Board) (es : List 
   module _ (slot : i < slots) (server : i < n) where
     unlock_in_lem : (s : State) → x.state ≡ s → Unlocks (unlock_in s b i)
     unfolding unlock_in unlock_ready unlock_with
-    unlock_in_lem (Ready s Free) e = by_test Unlocks (not (is_slot (named b) i)) (λ z. refused 9 refl) (λ z. refused 12 refl)
+    unlock_in_lem (Ready s Free) e = by_test Unlocks (not (is_slot (named b) i)) (λ z. refused NotNamed refl) (λ z. refused HoldsNone refl)
     unlock_in_lem (Ready s (On r k)) e =
-        by_test Unlocks (not (is_slot (named b) i)) (λ z. refused 9 refl) (λ z. unlock_given slot server s r k e)
-    unlock_in_lem Idle e = refused 9 refl
-    unlock_in_lem (Suspended t) e = refused 9 refl
-    unlock_in_lem Spent e = refused 9 refl
-    unlock_in_lem Stopped e = refused 9 refl
+        by_test Unlocks (not (is_slot (named b) i)) (λ z. refused NotNamed refl) (λ z. unlock_given slot server s r k e)
+    unlock_in_lem Idle e = refused NotNamed refl
+    unlock_in_lem (Suspended t) e = refused NotNamed refl
+    unlock_in_lem Spent e = refused NotNamed refl
+    unlock_in_lem Stopped e = refused NotNamed refl
 
   pub unlock_bound : Unlocks (unlocks b i)
   unfolding unlocks
-  unlock_bound = by_test Unlocks (not (eqb (standing b i) 0)) (λ e. refused (standing b i) (not-true _ e)) (λ e.
-      let (slot, server) = served n l t w b es B i (eqb-true _ _ (not-false _ e)) in
-      unlock_in_lem slot server x.state refl)
+  unlock_bound = by_standing Unlocks b i _ (refused WrongPhase refl) (refused NotInTable refl) (refused ServerStopped refl)
+      (λ slot here. unlock_in_lem slot (served n l t w b es B i here) x.state refl)

@@ -3,13 +3,13 @@
 #![tactic(auto)]
 
 ghost use Rattle.std.specs.Prelude.{◌≡◌};
-ghost use Rattle.quantity.specs.Quantity.{at, ticks, later, since, less_portion, before, below, longer, shorter, larger, length_of};
+ghost use Rattle.quantity.specs.Quantity.{at, ticks, later, since, less_portion, longer, shorter, length_of};
 ghost use Rattle.quantity.specs.Quantity.{longest_period, largest_frame, clock_end, longest_run};
 
-#[derive(Clone, Copy)]
+#[derive(Clone, Copy, PartialEq, Eq, PartialOrd, Ord)]
 pub struct Instant(u64);
 
-#[derive(Clone, Copy)]
+#[derive(Clone, Copy, PartialEq, Eq, PartialOrd, Ord)]
 pub struct Length(pub u32);
 
 impl Length {
@@ -17,11 +17,11 @@ impl Length {
 
     pub const ONE: Length = Length(1);
 
-    pub const LONGEST_PERIOD: Length = Length(1000000);
+    pub const LONGEST_PERIOD: Length = Length(1_000_000);
 
-    pub const LARGEST_FRAME: Length = Length(1000000000);
+    pub const LARGEST_FRAME: Length = Length(1_000_000_000);
 
-    pub const LONGEST_RUN: Length = Length(1000000);
+    pub const LONGEST_RUN: Length = Length(1_000_000);
 
     // The limits are those that the definitions name.
     pub fn longest_period() -> Length
@@ -47,54 +47,29 @@ impl Length {
     pub fn of(n: u64) -> Length
         ensures { result ≡ length_of n }
     {
-        if n <= 4294967295 {
-            Length(n as u32)
-        } else {
-            Length(4294967295)
-        }
+        Length(u32::try_from(n).unwrap_or(u32::MAX))
     }
 
-    pub fn is_below(self, other: Length) -> bool
-        ensures { result ≡ below self other }
-    {
-        self.0 < other.0
-    }
-
-    // The longer of the two.
-    #[tactic(auto, unfolding(crate::specs::Quantity::larger))]
-    pub fn larger(self, other: Length) -> Length
-        ensures { result ≡ larger self other }
-    {
-        if self.0 < other.0 { other } else { self }
-    }
-
+    // A length stays at its longest, which `+` would not say; an instant's `plus` is one line of its own too.
     #[tactic(auto, unfolding(crate::specs::Quantity::longer))]
     pub fn plus(self, other: Length) -> Length
         ensures { result ≡ longer self other }
     {
-        if self.0 <= 4294967295 - other.0 {
-            Length(self.0 + other.0)
-        } else {
-            Length(4294967295)
-        }
+        Length(self.0.saturating_add(other.0))
     }
 
     #[tactic(auto, unfolding(crate::specs::Quantity::shorter))]
     pub fn less(self, other: Length) -> Length
         ensures { result ≡ shorter self other }
     {
-        if other.0 <= self.0 {
-            Length(self.0 - other.0)
-        } else {
-            Length(0)
-        }
+        Length(self.0.saturating_sub(other.0))
     }
 }
 
 impl Instant {
     pub const BEGIN: Instant = Instant(0);
 
-    pub const END: Instant = Instant(1000000000000);
+    pub const END: Instant = Instant(1_000_000_000_000);
 
     // The clock begins at 0 and ends where the definitions say.
     pub fn begin() -> Instant
@@ -109,55 +84,38 @@ impl Instant {
         Self::END
     }
 
-    // Its number, to be shown.
-    pub fn number(self) -> u64
-        ensures { result ≡ self.0 }
-    {
-        self.0
-    }
-
-    pub fn is_before(self, other: Instant) -> bool
-        ensures { result ≡ before self other }
-    {
-        self.0 < other.0
-    }
-
     #[tactic(auto, unfolding(crate::specs::Quantity::later))]
     pub fn plus(self, l: Length) -> Instant
         ensures { result ≡ later self l }
     {
-        let by = l.0 as u64;
-        if self.0 <= 18446744073709551615 - by {
-            Instant(self.0 + by)
-        } else {
-            Instant(18446744073709551615)
-        }
+        Instant(self.0.saturating_add(u64::from(l.0)))
     }
 
     #[tactic(auto, unfolding(crate::specs::Quantity::since, crate::specs::Quantity::length_of))]
     pub fn since(self, other: Instant) -> Length
         ensures { result ≡ since self other }
     {
-        if self.0 <= other.0 {
-            return Length(0);
-        }
-        let gone = self.0 - other.0;
-        Length::of(gone)
+        Length::of(self.0.saturating_sub(other.0))
     }
 
     // This instant less floor(part * l / whole).
-    #[tactic(auto, using(crate::proofs::Laws::product_below), unfolding(crate::specs::Quantity::less_portion))]
+    #[tactic(auto, unfolding(crate::specs::Quantity::less_portion))]
     pub fn less_portion(self, l: Length, part: Length, whole: Length) -> Instant
         ensures { result ≡ less_portion self l part whole }
     {
-        if whole.0 == 0 {
+        if whole == Length::NONE {
             return self;
         }
-        let back = (part.0 as u64) * (l.0 as u64) / (whole.0 as u64);
-        if back <= self.0 {
-            Instant(self.0 - back)
-        } else {
-            Instant(0)
-        }
+        let back = u64::from(part.0) * u64::from(l.0) / u64::from(whole.0);
+        Instant(self.0.saturating_sub(back))
+    }
+}
+
+// An instant's number, to be shown.
+impl From<Instant> for u64 {
+    ghost from_gives = { λ t n. n ≡ t.0 };
+
+    fn from(instant: Instant) -> u64 {
+        instant.0
     }
 }

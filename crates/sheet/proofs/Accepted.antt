@@ -7,11 +7,9 @@ use mathlib.Core.List.{List, []}
 use lib.ListN.{length, take, drop, set, length-drop}
 use lib.Seq.{ext_get_or, length-take-le}
 use native.Mathlib.Omega.{arith}
-use native.Mathlib.Decide.{ℕ_discrete}
 use borrow.Author.Tests.{lt-ltb, ne_eqb}
 use Rattle.terms.specs.Words.{list}
 use Rattle.terms.proofs.Over.{last_or_below, list_at, list_length}
-use Rattle.terms.proofs.Tests.{true_or_false}
 use Rattle.quantity.specs.declared.Length.{Length}
 use Rattle.quantity.specs.Quantity.{ticks, length_of, largest_frame}
 use Rattle.quantity.proofs.Laws.{length_of_exact}
@@ -20,35 +18,19 @@ use Rattle.timing.specs.Timing.{present, hold}
 use Rattle.admission.specs.Admission.{slots, slot_of, placed, figures_of}
 use Rattle.board.specs.declared.Board.{Board}
 use Rattle.board.specs.declared.Outcome.{Outcome}
-use Rattle.board.specs.Calls.{fresh, blank, opened, with_table}
+use Rattle.board.specs.Calls.{fresh, blank, with_table}
 use Rattle.fields.specs.Numbers.{Bytes, bytes_of, number_of, number_in}
-use Rattle.fields.specs.Form.{InForm, sheet_of}
+use Rattle.fields.specs.Form.{InForm, sheet_of, in_form}
 use Rattle.fields.specs.Old.{old_body, form_of}
 use Rattle.fields.proofs.Numbers.{bytes_kept, number_in_lem}
 use Rattle.fields.proofs.Heads.{part_bytes}
-use Rattle.fields.proofs.Old.{old_good, old_length, old_body_lem, old_frame}
-use Rattle.sheet.specs.declared.Reading.{Reading}
-use Rattle.sheet.specs.Sheet.{body_of, bodies_of, encode, sheet_for, number_at, tag_at, body_at, entered, answered, onward, read_first, read_of}
+use Rattle.fields.proofs.Old.{old_out, old_length, old_body_lem, old_frame}
+use Rattle.sheet.specs.Sheet.{body_of, bodies_of, encode, sheet_for, number_at, tag_at, body_at, entered, accepted, read_first, read_of}
 use Rattle.sheet.specs.Commissioned.{Commissioned, opening, admission}
-use Rattle.sheet.proofs.Answers.{answered_refused, answered_done, onward_refused, onward_next, read_good, read_bad}
+use Rattle.sheet.proofs.Answers.{opened_plain, admitted_plain, plain_yields, onward_yields, read_yields}
 use Rattle.sheet.proofs.Bodies.{body_kept}
 use Rattle.sheet.proofs.Standing.{Standing, standing_empty, standing_with, slot_same, slot_other, vacant_at, bodies_all}
-use Rattle.board.proofs.Commissions.{number, open_done, Done, admit_done}
-
--- an answer 0 comes of a call that is done, and of nothing refused before
-answered_zero : (o : Outcome) (tag : ℕ) → (answered o tag).number ≡ 0 → number o ≡ 0
-answered_zero o tag e = go (ℕ_discrete (number o) 0)
-  where
-    go : Dec (number o ≡ 0) → number o ≡ 0
-    go (yes z) = z
-    go (no z) = absurd (z (sym (ap (λ (r : Reading). r.number) (answered_refused o tag z)) ∙ e))
-
-onward_zero : (r : Reading) (s : List ℕ) (i : ℕ) → (onward r s i).number ≡ 0 → r.number ≡ 0
-onward_zero r s i e = go (ℕ_discrete r.number 0)
-  where
-    go : Dec (r.number ≡ 0) → r.number ≡ 0
-    go (yes z) = z
-    go (no z) = absurd (z (sym (ap (λ (r : Reading). r.number) (onward_refused r s i z)) ∙ e))
+use Rattle.board.proofs.Commissions.{open_done, Done, admit_done}
 
 -- the board after the first n servers of a sheet
 pub record Came (s : List ℕ) (n : ℕ) (b : Board) : Type 0 where
@@ -100,25 +82,22 @@ module _ (s : List ℕ) (h : Bytes s) where
         subst (λ (x : Board). Came s (suc n) x) (sym d.next) (rw (lt-ltb n slots l) (came_with b f w l there kept))
 
   -- as far as the servers have come
-  came : (n : ℕ) → 7 + 43 * n ≤ length s → (read_first s n).number ≡ 0 → Came s n (read_first s n).board
+  came : (n : ℕ) → 7 + 43 * n ≤ length s → {x : Board} → read_first s n ≡ accepted x → Came s n x
   unfolding read_first entered
   came zero room e =
       let frame = number_in 4 (take 4 (drop 3 s)) in
-      let z = answered_zero (opened blank frame) 0 e in
+      let (z, yields) = plain_yields 0 (opened_plain blank frame) e in
       let (small, is) = open_done blank frame z in
-      subst (λ (b : Board). Came s 0 b) (sym (ap (λ (r : Reading). r.board) (answered_done (opened blank frame) 0 z) ∙ is)) (came_fresh s frame small refl)
+      subst (λ (b : Board). Came s 0 b) (sym is ∙ yields) (came_fresh s frame small refl)
   came (suc n) room e =
-      let r = read_first s n in
-      let before = onward_zero r s n e in
+      let (b, before, here) = onward_yields (read_first s n) s n e in
       let w = came n (omega arith) before in
-      let k = onward_next r s n before in
-      let o = entered r.board (body_at s n) in
       let fits : 50 + 43 * n ≤ length s = omega arith in
-      let z = answered_zero o (tag_at n) (sym (ap (λ (r : Reading). r.number) k) ∙ e) in
-      let (i, free, d) = admit_done r.board (period n fits) (budget n fits) (holds n fits) z in
+      let o = entered b (body_at s n) in
+      let (z, yields) = plain_yields (tag_at n) (admitted_plain b (period n fits) (budget n fits) (holds n fits)) here in
+      let (i, free, d) = admit_done b (period n fits) (budget n fits) (holds n fits) z in
       let (at, l) = vacant_at w.standing free in
-      subst (λ (b : Board). Came s (suc n) b) (sym (ap (λ (r : Reading). r.board) (k ∙ answered_done o (tag_at n) z)))
-      (came_next n fits r.board o w l (rw at at d))
+      subst (λ (b : Board). Came s (suc n) b) yields (came_next n fits b o w l (rw at at d))
 
   -- the bodies of the table are those of the sheet
   module _ (n : ℕ) (w : InForm 2 old_body s n) (b : Board) (c : Came s n b) where
@@ -142,43 +121,30 @@ module _ (s : List ℕ) (h : Bytes s) where
         ∙ ap (sheet_of 2 (bytes_of 4 b.frame.0)) (sym came_bodies)
 
   -- an accepted sheet is the sheet of the board that it yields
-  pub accepted_sheet : (read_of s).number ≡ 0 → s ≡ sheet_for (read_of s).board
-  accepted_sheet e = ⊎_elim whole (λ bad. absurd (omega (arith, ap (λ (r : Reading). r.number) (read_bad s bad)))) (true_or_false (form_of s).good)
-    where
-      whole : (form_of s).good ≡ true → s ≡ sheet_for (read_of s).board
-      whole good =
-          let n = (form_of s).servers in
-          let w = old_good s h good in
-          let k = read_good s good in
-          let c = came n (omega (arith, old_length w)) (sym (ap (λ (r : Reading). r.number) k) ∙ e) in
-          came_whole n w (read_first s n).board c ∙ ap (λ (r : Reading). sheet_for r.board) (sym k)
+  pub accepted_sheet : {b : Board} → read_of s ≡ accepted b → s ≡ sheet_for b
+  accepted_sheet {b} e =
+      let (n, form, first) = read_yields s e in
+      let w = old_out s h form in
+      came_whole n w b (came n (omega (arith, old_length w)) first)
 
 -- two accepted sheets that yield the same board are the same bytes
-pub same_board : (s s' : List ℕ) → Bytes s → Bytes s' → (read_of s).number ≡ 0 → (read_of s').number ≡ 0 → (read_of s).board ≡ (read_of s').board → s ≡ s'
-same_board s s' h h' e e' q = accepted_sheet s h e ∙ ap (λ (b : Board). sheet_for b) q ∙ sym (accepted_sheet s' h' e')
+pub same_board : (s s' : List ℕ) → Bytes s → Bytes s' → {b : Board} → read_of s ≡ accepted b → read_of s' ≡ accepted b → s ≡ s'
+same_board s s' h h' e e' = accepted_sheet s h e ∙ sym (accepted_sheet s' h' e')
 
 -- the board that an accepted sheet yields is one that opening and admitting lead to
-pub made : (s : List ℕ) (n : ℕ) → (read_first s n).number ≡ 0 → Commissioned n (read_first s n).board
+pub made : (s : List ℕ) (n : ℕ) {x : Board} → read_first s n ≡ accepted x → Commissioned n x
 unfolding read_first entered
 made s zero e =
     let frame = number_in 4 (take 4 (drop 3 s)) in
-    let z = answered_zero (opened blank frame) 0 e in
-    subst (λ (b : Board). Commissioned 0 b) (sym (ap (λ (r : Reading). r.board) (answered_done (opened blank frame) 0 z))) (opening blank frame z)
+    let (z, yields) = plain_yields 0 (opened_plain blank frame) e in
+    subst (λ (b : Board). Commissioned 0 b) yields (opening blank frame z)
 made s (suc n) e =
-    let r = read_first s n in
-    let before = onward_zero r s n e in
-    let k = onward_next r s n before in
-    let o = entered r.board (body_at s n) in
-    let z = answered_zero o (tag_at n) (sym (ap (λ (r : Reading). r.number) k) ∙ e) in
+    let (b, before, here) = onward_yields (read_first s n) s n e in
     let f : ℕ → ℕ = λ r. number_at (body_at s n) (r + 2) in
-    subst (λ (b : Board). Commissioned (suc n) b) (sym (ap (λ (r : Reading). r.board) (k ∙ answered_done o (tag_at n) z)))
-    (admission (number_at (body_at s n) 0) (number_at (body_at s n) 1) (list f 8) (made s n before) (list_length f 8) z)
+    let p = number_at (body_at s n) 0 in
+    let q = number_at (body_at s n) 1 in
+    let (z, yields) = plain_yields (tag_at n) (admitted_plain b p q (list f 8)) here in
+    subst (λ (b : Board). Commissioned (suc n) b) yields (admission p q (list f 8) (made s n before) (list_length f 8) z)
 
-pub accepted_board : (s : List ℕ) → (read_of s).number ≡ 0 → Commissioned (form_of s).servers (read_of s).board
-accepted_board s e = ⊎_elim whole (λ bad. absurd (omega (arith, ap (λ (r : Reading). r.number) (read_bad s bad)))) (true_or_false (form_of s).good)
-  where
-    whole : (form_of s).good ≡ true → Commissioned (form_of s).servers (read_of s).board
-    whole good =
-        let k = read_good s good in
-        subst (λ (b : Board). Commissioned (form_of s).servers b) (sym (ap (λ (r : Reading). r.board) k))
-        (made s (form_of s).servers (sym (ap (λ (r : Reading). r.number) k) ∙ e))
+pub accepted_board : (s : List ℕ) {b : Board} → read_of s ≡ accepted b → (n : ℕ) × (form_of s ≡ in_form n) × Commissioned n b
+accepted_board s e = let (n, form, first) = read_yields s e in (n, form, made s n first)

@@ -1,49 +1,106 @@
--- What a call's number makes of a reading, and eight numbers that are set one by one.
-use Prim.Native.Nat.{ℕ, ◌+◌}
+-- What reading makes of the answers of opening and admitting, which are done or refused and nothing else.
+use Prim.Native.Nat.{ℕ, zero, suc, ◌+◌, ◌≤◌}
 use mathlib.Core.Path.{◌≡◌, refl, ap}
-use mathlib.Core.Bool.{true, false}
+use mathlib.Core.Logic.{⊎_elim}
+use mathlib.Core.Bool.{not, ◌&&◌}
 use mathlib.Core.List.{List}
+use lib.Dec.{leb}
+use native.Mathlib.Omega.{arith}
 use native.Mathlib.Numerals.{add-one}
-use borrow.Author.Tests.{eq-eqb, ne_eqb}
-use Rattle.terms.specs.Words.{list}
+use Rattle.std.specs.Prelude.{Option, Some, None, Result, Ok, Err}
+use Rattle.terms.proofs.Over.{last_or_below}
+use Rattle.terms.proofs.Tests.{either}
+use Rattle.quantity.specs.Quantity.{largest_frame}
+use Rattle.refusals.specs.declared.Refusal.{Refusal}
+use Rattle.refusals.specs.declared.Refusal.TheVariants.{WrongPhase, TableFull, FrameOutOfRange}
+use Rattle.refusals.specs.Refusals as refusals
+use Rattle.timing.specs.declared.Figures.{Figures}
+use Rattle.admission.specs.Admission.{judged}
+use Rattle.admission.specs.Admission.Judging.{Judgement, judgement, broken_4, broken_5, broken_6, broken_7}
+use Rattle.admission.specs.Admission.Judging as judging
+use Rattle.board.specs.declared.Answer.{Answer}
+use Rattle.board.specs.declared.Answer.TheVariants as answer
+use Rattle.board.specs.declared.Board.{Board}
 use Rattle.board.specs.declared.Outcome.{Outcome}
 use Rattle.board.specs.Board.{number_of}
+use Rattle.board.specs.Calls.{commissioning, vacancy, opened, admitted_as, admitted_in, admitted}
+use Rattle.fields.specs.Form.{Form, in_form}
 use Rattle.fields.specs.Old.{form_of}
-use Rattle.sheet.specs.declared.Reading.{Reading}
-use Rattle.sheet.specs.Sheet.{accepted, refused_at, tag_at, body_at, entered, answered, onward, read_first, read_of}
-use Rattle.sheet.specs.Steps.{numbers_set}
+use Rattle.sheet.specs.declared.BadSheet.{BadSheet}
+use Rattle.sheet.specs.Sheet.{Reading, accepted, tag_at, body_at, entered, answered_by, answered, onward, read_first, read_as, read_of}
 
-module _ (o : Outcome) (tag : ℕ) where
-  pub answered_refused : (number_of o.answer ≡ 0 → ⊥) → answered o tag ≡ refused_at (number_of o.answer) tag
-  unfolding answered
-  answered_refused h = simp (ne_eqb _ _ h)
+-- an answer that is done or refused
+pub data Plain : Answer → Type 0 where
+  done : (v : ℕ) → Plain (answer.Done v)
+  refused : (why : Refusal) → (refusals.number_of why ≡ 0 → ⊥) → Plain (answer.Refused why)
 
-  pub answered_done : number_of o.answer ≡ 0 → answered o tag ≡ accepted o.board
-  unfolding answered
-  answered_done h = simp (eq-eqb _ _ h)
+pub opened_plain : (b : Board) (frame : ℕ) → Plain (opened b frame).answer
+unfolding opened
+opened_plain b frame =
+    either (λ (o : Outcome). Plain o.answer) (leb 1 frame && leb frame largest_frame) (done 0) (refused FrameOutOfRange (λ z. omega arith))
 
-module _ (r : Reading) (s : List ℕ) (i : ℕ) where
-  pub onward_refused : (r.number ≡ 0 → ⊥) → onward r s i ≡ r
-  unfolding onward
-  onward_refused h = simp (ne_eqb _ _ h)
+module _ (b : Board) (p q : ℕ) (hs : List ℕ) where
+  judged_plain : (i : ℕ) (j : Result Figures Refusal) → Judgement b.table i b.frame.0 p q hs j → Plain (admitted_as b i j).answer
+  unfolding admitted_as
+  judged_plain i j (broken_4 _) = refused _ (λ z. omega arith)
+  judged_plain i j (broken_5 _ _) = refused _ (λ z. omega arith)
+  judged_plain i j (broken_6 _ _ _) = refused _ (λ z. omega arith)
+  judged_plain i j (broken_7 _ _ _ _) = refused _ (λ z. omega arith)
+  judged_plain i j (judging.admitted a) = done i
 
-  pub onward_next : r.number ≡ 0 → onward r s i ≡ answered (entered r.board (body_at s i)) (tag_at i)
-  unfolding onward
-  onward_next h = simp (eq-eqb _ _ h)
+  slot_plain : (c : Option ℕ) → Plain (admitted_in b c p q hs).answer
+  unfolding admitted_in
+  slot_plain None = refused TableFull (λ z. omega arith)
+  slot_plain (Some i) = judged_plain i (judged b.table i b.frame.0 p q hs) (judgement b.table i b.frame.0 p q hs)
+
+  pub admitted_plain : Plain (admitted b p q hs).answer
+  unfolding admitted
+  admitted_plain =
+      either (λ (o : Outcome). Plain o.answer) (not (commissioning b)) (refused WrongPhase (λ z. omega arith)) (slot_plain (vacancy b.table))
+
+-- such a call is done exactly if its board is yielded
+pub plain_done : {a : Answer} (b : Board) (tag : ℕ) → Plain a → number_of a ≡ 0 → answered_by a b tag ≡ accepted b
+unfolding answered_by
+plain_done b tag (done v) z = refl
+plain_done b tag (refused why above) z = absurd (above z)
+
+pub plain_yields : {a : Answer} {b x : Board} (tag : ℕ) → Plain a → answered_by a b tag ≡ accepted x → (number_of a ≡ 0) × (b ≡ x)
+unfolding answered_by
+plain_yields tag (done v) e = (refl, (cc))
+plain_yields tag (refused why above) e = absurd (cc)
 
 pub first_next : (s : List ℕ) (n : ℕ) → read_first s (n + 1) ≡ onward (read_first s n) s n
 unfolding read_first
 first_next s n = ap (read_first s) (add-one n)
 
-pub numbers_list : (f : ℕ → ℕ) → numbers_set f 8 ≡ list f 8
-unfolding numbers_set list
-numbers_list f = refl
+-- what was refused stays refused
+pub first_refused : (s : List ℕ) {e : BadSheet} (i n : ℕ) → i ≤ n → read_first s i ≡ Err e → read_first s n ≡ Err e
+unfolding read_first onward
+first_refused s {e} i n l q = go n l
+  where
+    go : (n : ℕ) → i ≤ n → read_first s n ≡ Err e
+    go zero l = let z : i ≡ 0 = omega arith in rw z at q
+    go (suc n) l =
+        ⊎_elim (λ (same : i ≡ suc n). rw same at q) (λ m. ap (λ (r : Reading). onward r s n) (go n (omega (arith, m))))
+        (last_or_below (omega arith))
 
+-- a server that is admitted comes after none that was refused
+pub onward_yields : (r : Reading) (s : List ℕ) (i : ℕ) {x : Board} → onward r s i ≡ accepted x
+    → (b : Board) × (r ≡ accepted b) × (answered (entered b (body_at s i)) (tag_at i) ≡ accepted x)
+unfolding onward
+onward_yields (Ok b) s i e = (b, refl, e)
+onward_yields (Err _) s i e = absurd (cc)
+
+-- a sheet in form is read server by server, and nothing else yields a board
 module _ (s : List ℕ) where
-  pub read_good : (form_of s).good ≡ true → read_of s ≡ read_first s (form_of s).servers
-  unfolding read_of
-  read_good h = simp h
+  pub read_good : {n : ℕ} → form_of s ≡ in_form n → read_of s ≡ read_first s n
+  unfolding read_of read_as
+  read_good e = rw e
 
-  pub read_bad : (form_of s).good ≡ false → read_of s ≡ refused_at 19 (form_of s).offset
-  unfolding read_of
-  read_bad h = simp h
+  pub read_yields : {x : Board} → read_of s ≡ accepted x → (n : ℕ) × (form_of s ≡ in_form n) × (read_first s n ≡ accepted x)
+  unfolding read_of read_as
+  read_yields {x} = go (form_of s) refl
+    where
+      go : (f : Form) → form_of s ≡ f → read_as f s ≡ accepted x → (n : ℕ) × (form_of s ≡ in_form n) × (read_first s n ≡ accepted x)
+      go (Ok n) e p = (n, e, p)
+      go (Err bad) e p = absurd (cc)

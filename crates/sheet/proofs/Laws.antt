@@ -4,8 +4,11 @@ use mathlib.Core.Path.{◌≡◌, refl, sym, ap, ◌∙◌}
 use mathlib.Core.Bool.{Bool, true, false}
 use mathlib.Core.List.{List, [], ◌∷◌, ◌++◌, append-nil, append_assoc}
 use lib.ListN.{length, take, length-append, take-append-drop}
+use lib.Seq.{take_all}
 use native.Mathlib.Omega.{arith}
 use native.Mathlib.Numerals.{add-one}
+use Rattle.std.specs.List.{count_by}
+use Rattle.std.proofs.lemmas.List.Sums.{count_by_more_yes, count_by_more_no}
 use Rattle.terms.specs.Words.{pick}
 use Rattle.timing.specs.declared.Figures.{Figures}
 use Rattle.timing.specs.Timing.{present, hold}
@@ -104,8 +107,21 @@ module _ (t : List Figures) where
       omega (arith, servers_longer n, servers_width n)
 
   -- the servers counted, slot by slot
-  pub count_next : (n : ℕ) → 43 * length (bodies_of t (n + 1)) ≡ 43 * length (bodies_of t n) + length (slot_bytes (slot_of t n))
-  count_next n = omega (arith, servers_longer n, servers_width n, servers_width (n + 1))
+  counted : (n : ℕ) → n ≤ length t → count_by (λ f. present f) (take n t) ≡ length (bodies_of t n)
+  unfolding bodies_of
+  counted zero l = refl
+  counted (suc n) l =
+      let f = slot_of t n in
+      let more = length-append (bodies_of t n) (pick (present f) (body_of f ∷ []) []) in
+      ap (λ k. count_by (λ f. present f) (take k t)) (sym (add-one n)) ∙ go (present f) refl (counted n (omega arith)) ∙ sym more
+    where
+      go : (p : Bool) → present (slot_of t n) ≡ p → count_by (λ f. present f) (take n t) ≡ length (bodies_of t n)
+          → count_by (λ f. present f) (take (n + 1) t) ≡ length (bodies_of t n) + length (pick p (body_of (slot_of t n) ∷ []) [])
+      go true p before = omega (arith, count_by_more_yes (λ f. present f) t n (slot_of [] n) (omega arith) p)
+      go false p before = omega (arith, count_by_more_no (λ f. present f) t n (slot_of [] n) (omega arith) p)
+
+  pub servers_counted : length t ≡ slots → count_by (λ f. present f) t ≡ length (bodies_of t slots)
+  servers_counted h = ap (count_by (λ f. present f)) (sym (take_all slots t (omega arith))) ∙ counted slots (omega arith)
 
   pub encode_length : (frame : ℕ) → length (encode frame t) ≡ 10 + 43 * length (bodies_of t slots)
   unfolding encode sheet_of

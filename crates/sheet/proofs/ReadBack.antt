@@ -17,6 +17,9 @@ use Rattle.timing.specs.declared.Figures.{Figures}
 use Rattle.timing.specs.Timing.{present}
 use Rattle.admission.specs.Admission.{slots, slot_of, placed, figures_of}
 use Rattle.admission.specs.Admission.Judging.{Admitted}
+use Rattle.std.specs.Prelude.{Result, Ok, Err}
+use Rattle.refusals.specs.declared.Refusal.{Refusal}
+use Rattle.refusals.specs.declared.Refusal.TheVariants.{WrongPhase, BufferTooShort}
 use Rattle.board.specs.declared.Board.{Board}
 use Rattle.board.specs.declared.Outcome.{Outcome}
 use Rattle.board.specs.declared.Answer.TheVariants as answer
@@ -25,14 +28,12 @@ use Rattle.board.specs.Calls.{fresh, blank, opened, admitted, with_table}
 use Rattle.fields.specs.Numbers.{bytes_of, number_in}
 use Rattle.fields.specs.Form.{InForm, in_form}
 use Rattle.fields.specs.Old.{old_body, form_of}
-use Rattle.fields.specs.declared.Form.{Form}
 use Rattle.fields.proofs.Numbers.{bytes_length}
 use Rattle.fields.proofs.Old.{old_in, old_body_lem, old_frame}
 use Rattle.fields.proofs.Placing.{placed_in}
-use Rattle.sheet.specs.declared.Reading.{Reading}
-use Rattle.sheet.specs.Sheet.{body_of, bodies_of, encode, sheet_for, unwritten, written, filled, number_at, tag_at, body_at, entered, accepted, answered, onward, read_first, read_of}
+use Rattle.sheet.specs.Sheet.{body_of, bodies_of, encode, sheet_for, written, filled, number_at, tag_at, body_at, entered, Reading, accepted, answered_by, answered, onward, read_first, read_of}
 use Rattle.sheet.specs.Commissioned.{Commissioned, opening, admission}
-use Rattle.sheet.proofs.Answers.{answered_done, onward_next, read_good}
+use Rattle.sheet.proofs.Answers.{admitted_plain, plain_done, read_good}
 use Rattle.sheet.proofs.Laws.{body_length}
 use Rattle.sheet.proofs.Numbers.{word_back, period_back, budget_back, hold_back}
 use Rattle.sheet.proofs.Standing.{Standing, standing_empty, standing_with, slot_same, slot_other, vacant_at, bodies_all}
@@ -66,14 +67,13 @@ record Told (n : ℕ) (b : Board) : Type 0 where
       → read_first s n ≡ accepted b
 
 told_fresh : (l : ℕ) → l ≤ largest_frame → opened blank l ≡ out (fresh (length_of l)) (answer.Done 0) → Told 0 (fresh (length_of l))
-unfolding fresh read_first
+unfolding fresh read_first answered_by
 told_fresh l small is =
     let exact = ap (λ (x : Length). x.0) (length_of_exact l (omega arith)) in
     record {
       standing = standing_empty;
       frame_high = omega arith;
-      reads = λ s f k. ap (λ x. answered (opened blank x) 0) (f ∙ exact) ∙ ap (λ (o : Outcome). answered o 0) is
-          ∙ answered_done (out (fresh (length_of l)) (answer.Done 0)) 0 refl;
+      reads = λ s f k. ap (λ x. answered (opened blank x) 0) (f ∙ exact) ∙ ap (λ (o : Outcome). answered o 0) is;
     }
 
 placed_set : (t : List Figures) (n : ℕ) (f : Figures) → n < slots → placed t n f ≡ set t n f
@@ -82,7 +82,7 @@ placed_set t n f l = simp (lt-ltb n slots l)
 
 told_next : {n : ℕ} {b : Board} (p q : ℕ) (hs : List ℕ) → Told n b → length hs ≡ 8 → n < slots → number (admitted b p q hs) ≡ 0
     → Done b p q hs n (admitted b p q hs) → Told (suc n) (admitted b p q hs).board
-unfolding read_first
+unfolding read_first onward
 told_next {n} {b} p q hs w eight l e d =
     let f = figures_of p q hs in
     let a = d.newcomer in
@@ -99,10 +99,10 @@ told_next {n} {b} p q hs w eight l e d =
           let before : read_first s n ≡ accepted b =
           w.reads s (frame ∙ ap (λ (x : Board). x.frame.0) next) (λ k m. slot k (omega arith) ∙ ap body_of (slot_other st f l k (λ z. omega arith))) in
           let here : body_at s n ≡ body_of f = slot n (omega arith) ∙ ap body_of (slot_same st f l) in
-          ap (λ (r : Reading). onward r s n) before ∙ onward_next (accepted b) s n refl
+          ap (λ (r : Reading). onward r s n) before
           ∙ ap (λ body. answered (entered b body) (tag_at n)) here
           ∙ ap (λ (o : Outcome). answered o (tag_at n)) (entered_again b p q hs n eight a)
-          ∙ answered_done o (tag_at n) e;
+          ∙ plain_done o.board (tag_at n) (admitted_plain b p q hs) e;
     }
 
 told : {n : ℕ} {b : Board} → Commissioned n b → Told n b
@@ -149,7 +149,7 @@ read_back {n} {b} c =
     let frame : number_in 4 (take 4 (drop 3 s)) ≡ b.frame.0 = word_back (take 4 (drop 3 s)) b.frame.0 (old_frame g) (omega (arith, w.frame_high)) in
     let bodies : (k : ℕ) → k < n → body_at s k ≡ body_of (slot_of b.table k) =
     λ k l. old_body_lem g k l ∙ ap (λ (x : List (List ℕ)). get_or x k []) (bodies_all st) ∙ list_at f n k [] l in
-    read_good s (ap (λ (x : Form). x.good) form) ∙ ap (λ (x : Form). read_first s x.servers) form ∙ w.reads s frame bodies
+    read_good s form ∙ w.reads s frame bodies
 
 -- a board with that frame and table, running or not, is read back as the commissioning board
 pub read_back_any : {n : ℕ} {b : Board} (b' : Board) → Commissioned n b → b'.frame ≡ b.frame → b'.table ≡ b.table → read_of (sheet_for b') ≡ accepted b
@@ -157,28 +157,33 @@ read_back_any {n} {b} b' c f t =
     ap (λ (x : Length). read_of (encode x.0 b'.table)) f ∙ ap (λ (x : List Figures). read_of (encode b.frame.0 x)) t ∙ read_back c
 
 -- a sheet that is written fills the buffer's begin, and the bytes behind it stay
-module _ (b : Board) (buffer : List ℕ) (e : (written b (length buffer)).number ≡ 0) where
-  written_whole : (frame short : Bool)
-      → (pick frame (unwritten 1) (pick short (unwritten 23) (record { number = 0; value = length (sheet_for b) }))).number ≡ 0
-      → (frame ≡ false) × (short ≡ false)
-  written_whole true short z = absurd (omega arith)
-  written_whole false true z = absurd (omega arith)
-  written_whole false false z = (refl, refl)
+module _ (b : Board) (buffer : List ℕ) {size : ℕ} (e : written b (length buffer) ≡ Ok size) where
+  abbrev ok : ℕ → Result ℕ Refusal
+  ok n = Ok n
 
-  pub written_size : (written b (length buffer)).value ≡ length (sheet_for b)
+  written_whole : (frame short : Bool) → pick frame (Err WrongPhase) (pick short (Err BufferTooShort) (Ok (length (sheet_for b)))) ≡ ok size
+      → (frame ≡ false) × (short ≡ false) × (size ≡ length (sheet_for b))
+  written_whole true short z = absurd (cc)
+  written_whole false true z = absurd (cc)
+  written_whole false false z = (refl, refl, (cc))
+
+  tests : (eqb b.frame.0 0 ≡ false) × (ltb (length buffer) (length (sheet_for b)) ≡ false) × (size ≡ length (sheet_for b))
   unfolding written
-  written_size = let (f, r) = written_whole (eqb b.frame.0 0) (ltb (length buffer) (length (sheet_for b))) e in simp (f, r)
+  tests = written_whole (eqb b.frame.0 0) (ltb (length buffer) (length (sheet_for b))) e
+
+  pub written_size : size ≡ length (sheet_for b)
+  written_size = let (f, r, same) = tests in same
 
   pub written_bytes : filled b buffer ≡ sheet_for b ++ drop (length (sheet_for b)) buffer
-  unfolding written filled
+  unfolding filled
   written_bytes =
-      let (f, r) = written_whole (eqb b.frame.0 0) (ltb (length buffer) (length (sheet_for b))) e in
+      let (f, r, same) = tests in
       let room : length (sheet_for b) ≤ length buffer = ltb-false _ _ r in
       let none : 0 + length (sheet_for b) ≡ length (sheet_for b) = omega arith in
       simp f (placed_in buffer 0 (sheet_for b) (omega arith) ∙ ap (λ k. sheet_for b ++ drop k buffer) none)
 
   -- reading what was written
-  pub read_written : {n : ℕ} → Commissioned n b → read_of (take (written b (length buffer)).value (filled b buffer)) ≡ accepted b
+  pub read_written : {n : ℕ} → Commissioned n b → read_of (take size (filled b buffer)) ≡ accepted b
   read_written c =
       ap (λ k. read_of (take k (filled b buffer))) written_size ∙ ap (λ l. read_of (take (length (sheet_for b)) l)) written_bytes
       ∙ ap read_of (take_at (sheet_for b) (drop (length (sheet_for b)) buffer) (length (sheet_for b)) refl) ∙ read_back c

@@ -13,7 +13,7 @@ use Rattle.terms.proofs.Over.{last_or_below}
 use Rattle.timing.specs.declared.Figures.{Figures}
 use Rattle.timing.specs.Timing.{present}
 use Rattle.admission.specs.Admission.{slots, slot_of, in_table, nobody}
-use Rattle.board.specs.declared.Choice.TheVariants.{Slot}
+use Rattle.std.specs.Prelude.{Some}
 use Rattle.board.specs.Calls.{vacancy}
 use Rattle.board.proofs.Search.{no_slot, same_slot, search_none, search_first}
 use Rattle.sheet.specs.Sheet.{body_of, bodies_of}
@@ -39,7 +39,7 @@ standing_empty = record {
 
 module _ {n : ℕ} {t : List Figures} (w : Standing n t) where
   -- the lowest slot that is not in the table
-  pub vacant_at : {i : ℕ} → vacancy t ≡ Slot i → (i ≡ n) × (n < slots)
+  pub vacant_at : {i : ℕ} → vacancy t ≡ Some i → (i ≡ n) × (n < slots)
   unfolding vacancy
   vacant_at {i} e = go (dec_le slots n)
     where

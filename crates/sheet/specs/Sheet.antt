@@ -1,18 +1,20 @@
 -- The sheet of a board (document 01, "The sheet"): what is written, and what is read.
-use Rattle.std.specs.Prelude.{ℕ, zero, suc, ◌+◌, ◌*◌, List, [], ◌∷◌, ◌++◌, length, take, drop, ltb, eqb}
+use Rattle.std.specs.Prelude.{ℕ, zero, suc, ◌+◌, ◌*◌, List, [], ◌∷◌, ◌++◌, length, take, drop, ltb, eqb, Result, Ok, Err}
 use Rattle.terms.specs.Words.{pick, list}
 use Rattle.timing.specs.declared.Figures.{Figures}
 use Rattle.timing.specs.Timing.{present, hold}
 use Rattle.admission.specs.Admission.{slots, slot_of}
+use Rattle.refusals.specs.declared.Refusal.{Refusal}
+use Rattle.refusals.specs.declared.Refusal.TheVariants.{WrongPhase, NotWellFormed, BufferTooShort}
 use Rattle.board.specs.declared.Board.{Board}
 use Rattle.board.specs.declared.Outcome.{Outcome}
-use Rattle.board.specs.Board.{number_of}
+use Rattle.board.specs.declared.Answer.{Answer}
+use Rattle.board.specs.declared.Answer.TheVariants as answer
 use Rattle.board.specs.Calls.{blank, opened, admitted}
 use Rattle.fields.specs.Numbers.{bytes_of, number_in, placed}
-use Rattle.fields.specs.Form.{sheet_of}
+use Rattle.fields.specs.Form.{Form, sheet_of}
 use Rattle.fields.specs.Old.{form_of}
-use Rattle.sheet.specs.declared.Reading.{Reading}
-use Rattle.sheet.specs.declared.Written.{Written}
+use Rattle.sheet.specs.declared.BadSheet.{BadSheet}
 
 -- the holds of the resources below n, four bytes each
 unfoldable pub holds_of : Figures → ℕ → List ℕ
@@ -36,13 +38,10 @@ abbrev pub sheet_for : Board → List ℕ
 sheet_for b = encode b.frame.0 b.table
 
 -- writing: 1 without a frame, 23 with a short buffer, otherwise the number of bytes written
-abbrev pub unwritten : ℕ → Written
-unwritten n = record { number = n; value = 0 }
-
-unfoldable pub written : Board → ℕ → Written
+unfoldable pub written : Board → ℕ → Result ℕ Refusal
 written b room =
-    pick (eqb b.frame.0 0) (unwritten 1)
-    (pick (ltb room (length (sheet_for b))) (unwritten 23) (record { number = 0; value = length (sheet_for b) }))
+    pick (eqb b.frame.0 0) (Err WrongPhase)
+    (pick (ltb room (length (sheet_for b))) (Err BufferTooShort) (Ok (length (sheet_for b))))
 
 -- the buffer after it: the sheet from its begin on, and bytes after the sheet stay; nothing moves without a frame or where the sheet does not fit
 unfoldable pub filled : Board → List ℕ → List ℕ
@@ -63,26 +62,38 @@ body_at sheet i = take 40 (drop (tag_at i + 3) sheet)
 unfoldable pub entered : Board → List ℕ → Outcome
 entered b body = admitted b (number_at body 0) (number_at body 1) (list (λ r. number_at body (r + 2)) 8)
 
--- a sheet that is accepted yields a board; a refused one yields none, and its board has one fixed value
+-- a sheet that is accepted yields a board; a refused one yields none, but the refusal and the offset of the refused field
+abbrev pub Reading : Type 0
+Reading = Result Board BadSheet
+
 abbrev pub accepted : Board → Reading
-accepted b = record { number = 0; offset = 0; board = b }
+accepted b = Ok b
 
-abbrev pub refused_at : ℕ → ℕ → Reading
-refused_at n offset = record { number = n; offset = offset; board = blank }
+abbrev pub refused_at : Refusal → ℕ → Reading
+refused_at why offset = Err (record { refusal = why; offset = offset })
 
--- a call with a field: its next board, or its own number at the field's tag
-unfoldable pub answered : Outcome → ℕ → Reading
-answered o tag = pick (eqb (number_of o.answer) 0) (accepted o.board) (refused_at (number_of o.answer) tag)
+-- a call with a field: its next board, or its own refusal at the field's tag
+unfoldable pub answered_by : Answer → Board → ℕ → Reading
+answered_by (answer.Refused why) b tag = refused_at why tag
+answered_by _ b tag = accepted b
+
+abbrev pub answered : Outcome → ℕ → Reading
+answered o tag = answered_by o.answer o.board tag
 
 -- the next server is admitted where nothing before it was refused
 unfoldable pub onward : Reading → List ℕ → ℕ → Reading
-onward r sheet i = pick (eqb r.number 0) (answered (entered r.board (body_at sheet i)) (tag_at i)) r
+onward (Ok b) sheet i = answered (entered b (body_at sheet i)) (tag_at i)
+onward (Err e) sheet i = Err e
 
 -- the frame, and the first n servers in order
 unfoldable pub read_first : List ℕ → ℕ → Reading
 read_first sheet zero = answered (opened blank (number_in 4 (take 4 (drop 3 sheet)))) 0
 read_first sheet (suc n) = onward (read_first sheet n) sheet n
 
--- reading: form first over the whole sheet (19 at the first bad field), then the frame and admissions in order, with their own numbers
+-- reading: form first over the whole sheet (19 at the first bad field), then the frame and admissions in order, with their own refusals
+unfoldable pub read_as : Form → List ℕ → Reading
+read_as (Ok n) sheet = read_first sheet n
+read_as (Err bad) sheet = refused_at NotWellFormed bad.offset
+
 unfoldable pub read_of : List ℕ → Reading
-read_of sheet = pick (form_of sheet).good (read_first sheet (form_of sheet).servers) (refused_at 19 (form_of sheet).offset)
+read_of sheet = read_as (form_of sheet) sheet

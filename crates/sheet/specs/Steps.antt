@@ -1,5 +1,5 @@
 -- The steps in which the code goes over the slots; proofs/ show that they come to the definitions.
-use Rattle.std.specs.Prelude.{ℕ, zero, suc, List, [], replicate, set}
+use Rattle.std.specs.Prelude.{ℕ, List, []}
 use Rattle.terms.specs.Words.{pick}
 use Rattle.timing.specs.declared.Figures.{Figures}
 use Rattle.timing.specs.Timing.{present}
@@ -9,8 +9,3 @@ use Rattle.sheet.specs.Sheet.{body_of}
 -- what a slot adds to the sheet
 unfoldable pub slot_bytes : Figures → List ℕ
 slot_bytes f = pick (present f) (field_of 2 (body_of f)) []
-
--- eight numbers, of which the first n are set
-unfoldable pub numbers_set : (ℕ → ℕ) → ℕ → List ℕ
-numbers_set f zero = replicate 8 0
-numbers_set f (suc n) = set (numbers_set f n) n (f n)

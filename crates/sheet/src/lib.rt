@@ -3,28 +3,51 @@
 
 ghost use Rattle.std.specs.Prelude.{◌≡◌, ◌+◌, ◌*◌, ◌≤◌, length};
 ghost use Rattle.terms.specs.Words.{list};
-ghost use Rattle.fields.specs.Numbers.{placed};
+ghost use Rattle.refusals.specs.declared.Refusal.TheVariants.{NotWellFormed};
+ghost use Rattle.fields.specs.Numbers.{bytes_of, placed};
 ghost use Rattle.fields.specs.Form.{servers_of};
 ghost use Rattle.sheet.specs.Sheet.{holds_of, body_of, bodies_of, encode, written, filled};
-ghost use Rattle.sheet.specs.Sheet.{number_at, entered, refused_at, answered, onward, read_first, read_of};
+ghost use Rattle.sheet.specs.Sheet.{number_at, entered, accepted, answered, onward, read_first, read_of};
 ghost use Rattle.sheet.specs.Steps.{slot_bytes};
 
-use board::{Board, Outcome};
+use board::{Answer, Board, Outcome};
+use fields::{
+    BadField, CLOSING_TAG, FRAME_FIELD, FRAME_SIZE, FRAME_TAG, HEAD_SIZE, SERVER_FIELD,
+    SERVER_SIZE, SERVER_TAG,
+};
+use quantity::Length;
+use refusals::Refusal;
+use std::array;
 use timing::Figures;
 
-// What writing answers: document 01's number, and the number of bytes written.
+// The bytes of a number in a body.
+const WORD: usize = 4;
+
+// Why a sheet yields no board: the refusal, and the offset of the first bad field or of the refused one's tag.
 #[derive(Clone, Copy)]
-pub struct Written {
-    pub number: u8,
-    pub value: u64,
+pub struct BadSheet {
+    pub refusal: Refusal,
+    pub offset: usize,
 }
 
-// What reading answers: document 01's number, the offset of the refused field's tag, and the board that is yielded.
-#[derive(Clone, Copy)]
-pub struct Reading {
-    pub number: u8,
-    pub offset: u64,
-    pub board: Board,
+// A sheet that is not in form.
+impl From<BadField> for BadSheet {
+    ghost from_gives = { λ bad e. e ≡ record { refusal = NotWellFormed; offset = bad.offset } };
+
+    fn from(bad: BadField) -> BadSheet {
+        BadSheet {
+            refusal: Refusal::NotWellFormed,
+            offset: bad.offset,
+        }
+    }
+}
+
+// A length's four bytes from an offset on; nothing moves where they do not fit.
+#[tactic(auto, using(fields::proofs::Placing::word_bytes))]
+fn put_length(buffer: &mut [u8], at: usize, length: Length)
+    ensures { buffer.new ≡ placed buffer.old at (bytes_of 4 length.0) }
+{
+    fields::put(buffer, at, &length.0.to_be_bytes());
 }
 
 // The eight holds from an offset on.
@@ -33,11 +56,8 @@ fn put_holds(buffer: &mut [u8], at: usize, f: Figures)
     requires { at + 32 ≤ length buffer.old }
     ensures { buffer.new ≡ placed buffer.old at (holds_of f 8) }
 {
-    let mut r: u8 = 0;
-    while r < 8 {
-        let h = f.hold(r);
-        fields::put4(buffer, at + 4 * (r as usize), h.0);
-        r += 1;
+    for r in 0..8 {
+        put_length(buffer, at + WORD * usize::from(r), f.hold(r));
     }
 }
 
@@ -47,9 +67,9 @@ fn put_body(buffer: &mut [u8], at: usize, f: Figures)
     requires { at + 40 ≤ length buffer.old }
     ensures { buffer.new ≡ placed buffer.old at (body_of f) }
 {
-    fields::put4(buffer, at, f.period.0);
-    fields::put4(buffer, at + 4, f.budget.0);
-    put_holds(buffer, at + 8, f);
+    put_length(buffer, at, f.period);
+    put_length(buffer, at + WORD, f.budget);
+    put_holds(buffer, at + 2 * WORD, f);
 }
 
 // A slot's field from an offset on, if it is in the table; the answer is where the next one begins.
@@ -58,12 +78,13 @@ fn put_slot(buffer: &mut [u8], at: usize, f: Figures) -> usize
     requires { at + length (slot_bytes f) ≤ length buffer.old }
     ensures { (result ≡ at + length (slot_bytes f)) × (buffer.new ≡ placed buffer.old at (slot_bytes f)) }
 {
-    if f.is_present() {
-        fields::put_head(buffer, at, 2, 40);
-        put_body(buffer, at + 3, f);
-        return at + 43;
+    if !f.is_present() {
+        return at;
     }
-    at
+    // A constant that fits: no From from usize to u16, here and for the frame.
+    fields::put_head(buffer, at, SERVER_TAG, SERVER_SIZE as u16);
+    put_body(buffer, at + HEAD_SIZE, f);
+    at + SERVER_FIELD
 }
 
 // The servers' fields behind the frame's; the answer is where the closing field begins.
@@ -72,75 +93,47 @@ fn put_servers(buffer: &mut [u8], table: [Figures; 16]) -> usize
     requires { 7 + length (servers_of 2 (bodies_of table 16)) ≤ length buffer.old }
     ensures { (result ≡ 7 + length (servers_of 2 (bodies_of table 16))) × (buffer.new ≡ placed buffer.old 7 (servers_of 2 (bodies_of table 16))) }
 {
-    let mut at = 7;
-    let mut i = 0;
-    while i < 16 {
-        let f = table[i];
+    let mut at = FRAME_FIELD;
+    for f in table {
         at = put_slot(buffer, at, f);
-        i += 1;
     }
     at
 }
 
 // A whole sheet into a buffer that has room for it.
 #[tactic(auto, using(crate::proofs::Laws::encode_length, crate::proofs::Laws::servers_width, crate::proofs::Laws::sheet_on))]
-fn put_sheet(buffer: &mut [u8], frame: u32, table: [Figures; 16])
-    requires { length (encode frame table) ≤ length buffer.old }
-    ensures { buffer.new ≡ placed buffer.old 0 (encode frame table) }
+fn put_sheet(buffer: &mut [u8], frame: Length, table: [Figures; 16])
+    requires { length (encode frame.0 table) ≤ length buffer.old }
+    ensures { buffer.new ≡ placed buffer.old 0 (encode frame.0 table) }
 {
-    fields::put_head(buffer, 0, 1, 4);
-    fields::put4(buffer, 3, frame);
+    fields::put_head(buffer, 0, FRAME_TAG, FRAME_SIZE as u16);
+    put_length(buffer, HEAD_SIZE, frame);
     let end = put_servers(buffer, table);
-    fields::put_head(buffer, end, 255, 0);
+    fields::put_head(buffer, end, CLOSING_TAG, 0);
 }
 
 // The servers in the table.
-#[tactic(auto, using(crate::proofs::Laws::count_next), unfolding(crate::specs::Sheet::bodies_of))]
+#[tactic(auto, using(crate::proofs::Laws::servers_counted))]
 fn servers(table: [Figures; 16]) -> usize
     ensures { (result ≡ length (bodies_of table 16)) × (result ≤ 16) }
 {
-    let mut n = 0;
-    let mut i = 0;
-    while i < 16 {
-        let f = table[i];
-        n = n + one(f);
-        i += 1;
-    }
-    n
+    table.iter().filter(|f| f.is_present()).count()
 }
 
-// One for a slot in the table.
-#[tactic(auto, using(crate::proofs::Laws::slot_length, crate::proofs::Laws::slot_out))]
-fn one(f: Figures) -> usize
-    ensures { (result * 43 ≡ length (slot_bytes f)) × (result ≤ 1) }
-{
-    if f.is_present() { 1 } else { 0 }
-}
-
-// Writing is allowed in either phase once a frame is set.
+// Writing is allowed in either phase once a frame is set; the answer is the number of bytes written.
 #[tactic(auto, using(fields::proofs::Placing::placed_out, crate::proofs::Laws::encode_length), unfolding(crate::specs::Sheet::written, crate::specs::Sheet::filled))]
-pub fn write(board: Board, buffer: &mut [u8]) -> Written
+pub fn write(board: Board, buffer: &mut [u8]) -> Result<usize, Refusal>
     ensures { (result ≡ written board (length buffer.old)) × (buffer.new ≡ filled board buffer.old) }
 {
-    if board.frame.0 == 0 {
-        return Written {
-            number: 1,
-            value: 0,
-        };
+    if board.frame == Length::NONE {
+        return Err(Refusal::WrongPhase);
     }
-    let table = board.table;
-    let size = 10 + 43 * servers(table);
+    let size = FRAME_FIELD + SERVER_FIELD * servers(board.table) + HEAD_SIZE;
     if buffer.len() < size {
-        return Written {
-            number: 23,
-            value: 0,
-        };
+        return Err(Refusal::BufferTooShort);
     }
-    put_sheet(buffer, board.frame.0, table);
-    Written {
-        number: 0,
-        value: size as u64,
-    }
+    put_sheet(buffer, board.frame, board.table);
+    Ok(size)
 }
 
 // The k-th number of a body.
@@ -149,25 +142,18 @@ fn number_at(body: &[u8], k: usize) -> u64
     requires { 4 * k + 4 ≤ length body.now }
     ensures { result ≡ number_at body.now k }
 {
-    let start = 4 * k;
-    let end = start + 4;
-    fields::read4(&body[start..end]) as u64
+    let start = WORD * k;
+    let end = start + WORD;
+    u64::from(fields::read4(&body[start..end]))
 }
 
 // The eight holds of a body.
-#[tactic(auto, using(crate::proofs::Answers::numbers_list), unfolding(crate::specs::Steps::numbers_set))]
+#[tactic(auto, unfolding(terms::specs::Words::list))]
 fn holds_in(body: &[u8]) -> [u64; 8]
     requires { 40 ≤ length body.now }
     ensures { result ≡ list (λ i. number_at body.now (i + 2)) 8 }
 {
-    let mut holds = [0u64; 8];
-    let mut r = 0;
-    while r < 8 {
-        let h = number_at(body, r + 2);
-        holds[r] = h;
-        r += 1;
-    }
-    holds
+    array::from_fn(|r| number_at(body, r + 2))
 }
 
 // A server's body handed to admission.
@@ -176,95 +162,63 @@ fn enter(board: Board, body: &[u8]) -> Outcome
     requires { 40 ≤ length body.now }
     ensures { result ≡ entered board body.now }
 {
-    let period = number_at(body, 0);
-    let budget = number_at(body, 1);
-    let holds = holds_in(body);
-    board.admit(period, budget, holds)
+    board.admit(number_at(body, 0), number_at(body, 1), holds_in(body))
 }
 
-// A refused sheet yields no board: what stands there is the blank one.
-fn refused(number: u8, offset: usize) -> Reading
-    ensures { result ≡ refused_at number offset }
-{
-    let board = Board::blank();
-    Reading {
-        number,
-        offset: offset as u64,
-        board,
-    }
-}
-
-#[tactic(auto, using(crate::proofs::Answers::answered_refused, crate::proofs::Answers::answered_done))]
-fn answered(o: Outcome, tag: usize) -> Reading
+// A call with a field: its board, or why the field at a tag is refused. Opening and admitting give no other answer (`Plain`).
+#[tactic(auto, unfolding(crate::specs::Sheet::answered_by))]
+fn answered(o: Outcome, tag: usize) -> Result<Board, BadSheet>
     ensures { result ≡ answered o tag }
 {
-    let answer = o.answer;
-    let number = answer.number();
-    if number != 0 {
-        return refused(number, tag);
-    }
-    let board = o.board;
-    Reading {
-        number: 0,
-        offset: 0,
-        board,
+    match o.answer {
+        Answer::Refused(refusal) => Err(BadSheet {
+            refusal,
+            offset: tag,
+        }),
+        _ => Ok(o.board),
     }
 }
 
 // The frame.
 #[tactic(auto, unfolding(crate::specs::Sheet::read_first))]
-fn begin(sheet: &[u8]) -> Reading
+fn begin(sheet: &[u8]) -> Result<Board, BadSheet>
     requires { 7 ≤ length sheet.now }
     ensures { result ≡ read_first sheet.now 0 }
 {
-    let start = 3;
-    let end = 7;
-    let frame = fields::read4(&sheet[start..end]);
-    let blank = Board::blank();
-    let o = blank.open(frame as u64);
-    answered(o, 0)
+    let frame = fields::read4(&sheet[HEAD_SIZE..FRAME_FIELD]);
+    answered(Board::blank().open(u64::from(frame)), 0)
 }
 
-// The i-th server, where nothing before it was refused: its body is the stretch of the sheet behind its head.
-#[tactic(auto, using(crate::proofs::Answers::onward_refused, crate::proofs::Answers::onward_next))]
-fn onward(r: Reading, sheet: &[u8], i: usize) -> Reading
+// The i-th server: its body is the stretch of the sheet behind its head.
+#[tactic(auto, unfolding(crate::specs::Sheet::onward))]
+fn onward(board: Board, sheet: &[u8], i: usize) -> Result<Board, BadSheet>
     requires { 50 + 43 * i ≤ length sheet.now }
-    ensures { result ≡ onward r sheet.now i }
+    ensures { result ≡ onward (accepted board) sheet.now i }
 {
-    if r.number != 0 {
-        return r;
-    }
-    let board = r.board;
-    let tag = 7 + 43 * i;
-    let start = tag + 3;
-    let end = start + 40;
+    let tag = FRAME_FIELD + SERVER_FIELD * i;
+    let start = tag + HEAD_SIZE;
+    let end = start + SERVER_SIZE;
     let o = enter(board, &sheet[start..end]);
     answered(o, tag)
 }
 
 // The frame and the first n servers.
-#[tactic(auto, using(crate::proofs::Answers::first_next))]
-fn read_first(sheet: &[u8], n: usize) -> Reading
+#[tactic(auto, using(crate::proofs::Answers::first_next, crate::proofs::Answers::first_refused))]
+fn read_first(sheet: &[u8], n: usize) -> Result<Board, BadSheet>
     requires { 7 + 43 * n ≤ length sheet.now }
     ensures { result ≡ read_first sheet.now n }
 {
-    let mut r = begin(sheet);
-    let mut i = 0;
-    while i < n {
-        r = onward(r, sheet, i);
-        i += 1;
+    let mut board = begin(sheet)?;
+    for i in 0..n {
+        board = onward(board, sheet, i)?;
     }
-    r
+    Ok(board)
 }
 
 // Reading takes no earlier board and is allowed at any time.
-#[tactic(auto, using(fields::proofs::Numbers::slice_bytes, fields::proofs::Old::old_good, fields::proofs::Old::old_length, crate::proofs::Answers::read_good, crate::proofs::Answers::read_bad))]
-pub fn read(sheet: &[u8]) -> Reading
+#[tactic(auto, unfolding(crate::specs::Sheet::read_of, crate::specs::Sheet::read_as))]
+pub fn read(sheet: &[u8]) -> Result<Board, BadSheet>
     ensures { result ≡ read_of sheet.now }
 {
-    let form = fields::form_of(sheet);
-    if form.good {
-        return read_first(sheet, form.servers);
-    }
-    refused(19, form.offset)
+    read_first(sheet, fields::form_of(sheet)?)
 }

@@ -1,17 +1,17 @@
 -- What holds of the sum, the largest, every, some and the list over the numbers below n: by going from n to n + 1.
-use Prim.Native.Nat.{ℕ, zero, suc, ◌+◌, ◌≤◌, ◌<◌, max}
+use Prim.Native.Nat.{ℕ, zero, suc, ◌≤◌, ◌<◌, max}
 use mathlib.Core.Path.{◌≡◌, refl, sym, subst, ◌∙◌}
 use mathlib.Core.Logic.{◌⊎◌, inl, inr, ⊎_elim}
-use mathlib.Core.Bool.{Bool, true, false, ◌&&◌, ◌||◌}
+use mathlib.Core.Bool.{Bool, true}
 use mathlib.Core.List.{[], ◌∷◌}
-use lib.ListN.{length, get_or, length-append, length-set, length-replicate, get_or-append}
-use lib.Seq.{get_or_at, get_or-set_same, get_or-set_other, ext_get_or}
+use lib.ListN.{length, get_or, length-append, get_or-append}
+use lib.Seq.{get_or_at}
 use native.Mathlib.Omega.{arith}
 use native.Mathlib.Nat.{eq-or-lt_of_le, le_of_suc-le-suc, max-le, max-eq_left, max-eq_right, le-max_left, le-max_right}
 use native.Mathlib.Numerals.{add-one}
 use native.Mathlib.Decide.{dec_le}
-use Rattle.terms.specs.Words.{sum, largest, every, some, list, filled}
-use Rattle.terms.proofs.Tests.{not_both, true_or_false, and_in, and_left, and_right, or_left, or_right, or_out}
+use Rattle.terms.specs.Words.{sum, largest, every, some, list}
+use Rattle.terms.proofs.Tests.{not_both, and_in, and_left, and_right, or_left, or_right, or_out}
 
 -- below n + 1: n itself, or below n
 pub last_or_below : {j n : ℕ} → j < suc n → (j ≡ n) ⊎ (j < n)
@@ -78,27 +78,6 @@ some_out f zero e = absurd (not_both e refl)
 some_out f (suc n) e =
     ⊎_elim (λ p. let (j, l, q) = some_out f n p in (j, omega arith, q)) (λ p. (n, omega arith, p)) (or_out (some f n) (f n) e)
 
--- from n to n + 1, as the code counts
-pub sum_next : (f : ℕ → ℕ) (n : ℕ) → sum f (n + 1) ≡ sum f n + f n
-unfolding sum
-sum_next f n = rw add-one
-
-pub largest_next : (f : ℕ → ℕ) (n : ℕ) → largest f (n + 1) ≡ max (largest f n) (f n)
-unfolding largest
-largest_next f n = rw add-one
-
-pub every_next : (f : ℕ → Bool) (n : ℕ) → every f (n + 1) ≡ (every f n && f n)
-unfolding every
-every_next f n = rw add-one
-
-pub some_next : (f : ℕ → Bool) (n : ℕ) → some f (n + 1) ≡ (some f n || f n)
-unfolding some
-some_next f n = rw add-one
-
--- a test that fails somewhere does not hold everywhere
-pub every_fails : (f : ℕ → Bool) (n j : ℕ) → j < n → f j ≡ false → every f n ≡ false
-every_fails f n j h e = ⊎_elim (λ t. absurd (not_both (every_out f n t j h) e)) (λ t. t) (true_or_false (every f n))
-
 -- the list's length, and what stands at each place
 module _ {A : Type 0} (f : ℕ → A) where
   pub list_length : (n : ℕ) → length (list f n) ≡ n
@@ -112,23 +91,3 @@ module _ {A : Type 0} (f : ℕ → A) where
   list_at (suc n) j d h =
       ⊎_elim (λ (e : j ≡ n). rw e (get_or_at (list f n) (f n) [] d n (list_length n)))
       (λ (l : j < n). get_or-append (list f n) (f n ∷ []) d j (rw list_length l) ∙ list_at n j d l) (last_or_below h)
-
--- all of them set is the list
-module _ {A : Type 0} (d : A) (m : ℕ) (f : ℕ → A) where
-  filled_length : (n : ℕ) → length (filled d m f n) ≡ m
-  unfolding filled
-  filled_length zero = length-replicate m d
-  filled_length (suc n) = rw (length-set, filled_length n)
-
-  filled_at : (n j : ℕ) → j < n → j < m → get_or (filled d m f n) j d ≡ f j
-  unfolding filled
-  filled_at zero j h l = absurd (omega arith)
-  filled_at (suc n) j h l =
-      ⊎_elim (λ (e : j ≡ n). rw e (get_or-set_same (filled d m f n) n (f n) d (rw filled_length (omega arith))))
-      (λ (k : j < n). get_or-set_other (filled d m f n) n j (f n) d (λ e. omega arith) ∙ filled_at n j k l) (last_or_below h)
-
-  pub filled_list : filled d m f m ≡ list f m
-  filled_list =
-      ext_get_or d (filled d m f m) (list f m) (filled_length m ∙ sym (list_length f m)) (λ i l.
-      let k : i < m = rw filled_length at l in
-      filled_at m i k k ∙ sym (list_at f m i d k))

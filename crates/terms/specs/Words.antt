@@ -1,5 +1,5 @@
 -- The words that all definitions share: if, where, and the sum, the largest, every, some and the list over the numbers below n.
-use Rattle.std.specs.Prelude.{ℕ, zero, suc, ◌+◌, max, Bool, true, false, ◌&&◌, ◌||◌, List, [], ◌∷◌, ◌++◌, replicate, set}
+use Rattle.std.specs.Prelude.{ℕ, zero, suc, ◌+◌, max, Bool, true, false, ◌&&◌, ◌||◌, List, [], ◌∷◌, ◌++◌}
 
 -- an if
 abbrev pub pick : {A : Type 0} → Bool → A → A → A
@@ -35,8 +35,3 @@ some f (suc n) = some f n || f n
 unfoldable pub list : {A : Type 0} → (ℕ → A) → ℕ → List A
 list f zero = []
 list f (suc n) = list f n ++ (f n ∷ [])
-
--- m times d, of which the first n are set one by one to f 0, f 1, ..
-unfoldable pub filled : {A : Type 0} → A → ℕ → (ℕ → A) → ℕ → List A
-filled d m f zero = replicate m d
-filled d m f (suc n) = set (filled d m f n) n (f n)

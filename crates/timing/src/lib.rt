@@ -15,6 +15,7 @@ pub struct Figures {
 }
 
 // What a ready server holds, and for how many ticks it has run since it locked.
+// As an Option it would be `Some((r, n))` for `On(r, n)`: no plainer, and `Passes` and `Undisturbed` in promise/specs name its cases.
 #[derive(Clone, Copy)]
 pub enum Lock {
     Free,
@@ -64,47 +65,36 @@ impl Figures {
     pub fn is_present(self) -> bool
         ensures { result ≡ present self }
     {
-        self.period.0 != 0
+        self.period != Length::NONE
     }
 
     #[tactic(auto, unfolding(crate::specs::Timing::hold))]
     pub fn hold(self, r: u8) -> Length
         ensures { result ≡ hold self r }
     {
-        if r < 8 {
-            let holds = self.holds;
-            return holds[r as usize];
-        }
-        Length::NONE
+        self.holds
+            .get(usize::from(r))
+            .copied()
+            .unwrap_or(Length::NONE)
     }
 
-    #[tactic(auto, using(terms::proofs::Over::largest_next, quantity::proofs::Laws::larger_is, crate::specs::Timing::Text::largest_hold_is), unfolding(terms::specs::Words::largest))]
     pub fn largest_hold(self) -> Length
         ensures { result ≡ largest_hold self }
     {
-        let mut most = Length(0);
-        let mut r: u8 = 0;
-        while r < 8 {
-            let h = self.hold(r);
-            most = most.larger(h);
-            r += 1;
-        }
-        most
+        self.holds.iter().copied().max().unwrap_or(Length::NONE)
     }
 
     #[tactic(auto, using(crate::specs::Timing::Text::replenished_is))]
     pub fn replenish(self, from: Instant) -> Life
         ensures { result ≡ replenished self from }
     {
-        let q = self.budget;
-        let d = from.plus(self.period);
         Life {
             state: State::Ready {
                 started: false,
                 lock: Lock::Free,
             },
-            left: q,
-            deadline: d,
+            left: self.budget,
+            deadline: from.plus(self.period),
         }
     }
 }
@@ -115,8 +105,8 @@ impl Lock {
         ensures { result ≡ held_on self }
     {
         match self {
-            Lock::Free => Lock::Free,
-            Lock::On(r, n) => Lock::On(r, n.plus(Length(1))),
+            Lock::Free => self,
+            Lock::On(r, n) => Lock::On(r, n.plus(Length::ONE)),
         }
     }
 }
@@ -125,44 +115,20 @@ impl State {
     pub fn is_ready(self) -> bool
         ensures { result ≡ is_ready self }
     {
-        match self {
-            State::Ready {
-                started: _,
-                lock: _,
-            } => true,
-            State::Idle => false,
-            State::Suspended(_) => false,
-            State::Spent => false,
-            State::Stopped => false,
-        }
+        matches!(self, State::Ready { .. })
     }
 
     // Ready and started.
     pub fn is_started(self) -> bool
         ensures { result ≡ is_started self }
     {
-        match self {
-            State::Ready { started, lock: _ } => started,
-            State::Idle => false,
-            State::Suspended(_) => false,
-            State::Spent => false,
-            State::Stopped => false,
-        }
+        matches!(self, State::Ready { started: true, .. })
     }
 
     pub fn is_stopped(self) -> bool
         ensures { result ≡ is_stopped self }
     {
-        match self {
-            State::Stopped => true,
-            State::Idle => false,
-            State::Ready {
-                started: _,
-                lock: _,
-            } => false,
-            State::Suspended(_) => false,
-            State::Spent => false,
-        }
+        matches!(self, State::Stopped)
     }
 }
 
@@ -173,7 +139,7 @@ impl Life {
     {
         Life {
             state: State::Idle,
-            left: Length(0),
+            left: Length::NONE,
             deadline: Instant::BEGIN,
         }
     }
@@ -182,13 +148,7 @@ impl Life {
     pub fn in_state(self, to: State) -> Life
         ensures { result ≡ in_state self to }
     {
-        let q = self.left;
-        let d = self.deadline;
-        Life {
-            state: to,
-            left: q,
-            deadline: d,
-        }
+        Life { state: to, ..self }
     }
 
     // The replenishment instant.
@@ -196,68 +156,62 @@ impl Life {
     pub fn tr(self, f: Figures) -> Instant
         ensures { result ≡ tr f self }
     {
-        let d = self.deadline;
-        d.less_portion(f.period, self.left, f.budget)
+        self.deadline.less_portion(f.period, self.left, f.budget)
     }
 
     // Suspended until t, and said so.
     fn wait_until(self, t: Instant) -> Ruled
         ensures { result ≡ waits self t }
     {
-        let l = self.in_state(State::Suspended(t));
         Ruled {
-            life: l,
+            life: self.in_state(State::Suspended(t)),
             ruling: Ruling::Suspended(t),
         }
     }
 
     // An idle server arrives.
-    #[tactic(auto, using(crate::specs::Timing::Text::arrived_is, terms::proofs::Tests::test_of))]
+    #[tactic(auto, using(crate::specs::Timing::Text::arrived_is))]
     pub fn arrive(self, f: Figures, now: Instant) -> Ruled
         ensures { result ≡ arrived f self now }
     {
         let tr = self.tr(f);
-        if now.is_before(tr) {
+        if now < tr {
             return self.wait_until(tr);
         }
-        let l = f.replenish(now);
         Ruled {
-            life: l,
+            life: f.replenish(now),
             ruling: Ruling::Done,
         }
     }
 
     // A lock is asked for with too little left.
-    #[tactic(auto, using(terms::proofs::Tests::test_of), unfolding(crate::specs::Timing::lacking))]
+    #[tactic(auto, unfolding(crate::specs::Timing::lacking))]
     fn lack(self, f: Figures, now: Instant) -> Ruled
         ensures { result ≡ lacking f self now }
     {
         let tr = self.tr(f);
-        if now.is_before(tr) {
+        if now < tr {
             return self.wait_until(tr);
         }
-        let l = f.replenish(tr);
         Ruled {
-            life: l,
+            life: f.replenish(tr),
             ruling: Ruling::Renewed,
         }
     }
 
     // A ready server asks for resource r, which it may have but for its budget.
-    #[tactic(auto, using(crate::specs::Timing::Text::asked_is, terms::proofs::Tests::test_of))]
+    #[tactic(auto, using(crate::specs::Timing::Text::asked_is))]
     pub fn lock(self, f: Figures, r: u8, now: Instant) -> Ruled
         ensures { result ≡ asked f self r now }
     {
-        let most = f.largest_hold();
-        if self.left.is_below(most) {
+        if self.left < f.largest_hold() {
             return self.lack(f, now);
         }
-        let l = self.in_state(State::Ready {
-            started: true,
-            lock: Lock::On(r, Length(0)),
-        });
         Ruled {
-            life: l,
+            life: self.in_state(State::Ready {
+                started: true,
+                lock: Lock::On(r, Length::NONE),
+            }),
             ruling: Ruling::Done,
         }
     }
@@ -267,11 +221,7 @@ impl Life {
     fn come(self, f: Figures, t: Instant, now: Instant) -> Life
         ensures { result ≡ comes f self t now }
     {
-        if now.is_before(t) {
-            self
-        } else {
-            f.replenish(t)
-        }
+        if now < t { self } else { f.replenish(t) }
     }
 
     // A ready server without a lock: spent if nothing is left.
@@ -279,12 +229,10 @@ impl Life {
     fn end(self, f: Figures, now: Instant) -> Life
         ensures { result ≡ ended f self now }
     {
-        if self.left.0 != 0 {
+        if self.left != Length::NONE {
             return self;
         }
-        let d = self.deadline;
-        let l = self.in_state(State::Spent);
-        l.come(f, d, now)
+        self.in_state(State::Spent).come(f, self.deadline, now)
     }
 
     // The spent rule, after a tick or an unlock.
@@ -292,16 +240,12 @@ impl Life {
     pub fn settle(self, f: Figures, now: Instant) -> Life
         ensures { result ≡ settled f self now }
     {
-        let state = self.state;
-        match state {
-            State::Ready { started: _, lock } => match lock {
-                Lock::Free => self.end(f, now),
-                Lock::On(_, _) => self,
-            },
-            State::Idle => self,
-            State::Suspended(_) => self,
-            State::Spent => self,
-            State::Stopped => self,
+        match self.state {
+            State::Ready {
+                lock: Lock::Free,
+                ..
+            } => self.end(f, now),
+            _ => self,
         }
     }
 
@@ -310,17 +254,10 @@ impl Life {
     pub fn is_due(self, now: Instant) -> bool
         ensures { result ≡ due self now }
     {
-        let state = self.state;
-        let d = self.deadline;
-        match state {
-            State::Suspended(t) => !now.is_before(t),
-            State::Spent => !now.is_before(d),
-            State::Idle => false,
-            State::Ready {
-                started: _,
-                lock: _,
-            } => false,
-            State::Stopped => false,
+        match self.state {
+            State::Suspended(t) => t <= now,
+            State::Spent => self.deadline <= now,
+            _ => false,
         }
     }
 
@@ -329,17 +266,10 @@ impl Life {
     pub fn wake(self, f: Figures, now: Instant) -> Life
         ensures { result ≡ woken f self now }
     {
-        let state = self.state;
-        let d = self.deadline;
-        match state {
+        match self.state {
             State::Suspended(t) => self.come(f, t, now),
-            State::Spent => self.come(f, d, now),
-            State::Idle => self,
-            State::Ready {
-                started: _,
-                lock: _,
-            } => self,
-            State::Stopped => self,
+            State::Spent => self.come(f, self.deadline, now),
+            _ => self,
         }
     }
 
@@ -348,25 +278,16 @@ impl Life {
     pub fn tick(self) -> Life
         ensures { result ≡ ran self }
     {
-        let state = self.state;
-        let d = self.deadline;
-        match state {
-            State::Ready { started: _, lock } => {
-                let held = lock.tick();
-                let q = self.left.less(Length(1));
-                Life {
-                    state: State::Ready {
-                        started: true,
-                        lock: held,
-                    },
-                    left: q,
-                    deadline: d,
-                }
-            }
-            State::Idle => self,
-            State::Suspended(_) => self,
-            State::Spent => self,
-            State::Stopped => self,
+        match self.state {
+            State::Ready { lock, .. } => Life {
+                state: State::Ready {
+                    started: true,
+                    lock: lock.tick(),
+                },
+                left: self.left.less(Length::ONE),
+                ..self
+            },
+            _ => self,
         }
     }
 }

@@ -1,5 +1,5 @@
 -- What the judgement of a newcomer states: by its tests, in their order.
-use Rattle.std.specs.Prelude.{ℕ, ◌*◌, ◌/◌, ◌%◌, ◌<◌, ◌≤◌, ◌≡◌, Bool, not, ◌&&◌, List, leb, get_or}
+use Rattle.std.specs.Prelude.{ℕ, ◌*◌, ◌/◌, ◌%◌, ◌<◌, ◌≤◌, ◌≡◌, Bool, not, ◌&&◌, List, leb, get_or, Result, Ok, Err}
 use Rattle.std.proofs.Math.Path.{refl}
 use Rattle.std.proofs.Common.{ap, ◌∙◌, arith, div-add-mod'}
 use Rattle.std.proofs.Math.Bool.{true, false}
@@ -15,8 +15,9 @@ use Rattle.quantity.proofs.Laws.{length_of_exact}
 use Rattle.timing.specs.declared.Figures.{Figures}
 use Rattle.timing.specs.Timing.{hold, Ranged}
 use Rattle.timing.specs.Timing.Laws.{hold_inside, hold_outside}
-use Rattle.admission.specs.declared.Judged.{Judged}
-use Rattle.admission.specs.Admission.{passes, period_fits, budget_fits, holds_fit, figures_of, placed, refused, judged}
+use Rattle.refusals.specs.declared.Refusal.{Refusal}
+use Rattle.refusals.specs.declared.Refusal.TheVariants.{PeriodOutOfRange, BudgetOutOfRange, HoldAboveBudget, TestNotMet}
+use Rattle.admission.specs.Admission.{passes, period_fits, budget_fits, holds_fit, figures_of, placed, judged}
 
 -- a period that fits is in its range and divides the frame; a budget and holds that fit are in theirs
 module _ (l p : ℕ) (e : period_fits l p ≡ true) where
@@ -109,20 +110,20 @@ module _ (t : List Figures) (i l p q : ℕ) (hs : List ℕ) where
       each r (yes h) bn low = omega (arith, ap (λ (n : Length). n.0) (hold_outside (figures_of p q hs) r h))
       each r (no z) bn low = omega (arith, ap (λ (n : Length). n.0) (low r (omega arith)), holds_high q hs c r (omega arith))
 
-  -- the judgement says 4, 5, 6 or 7 and nothing else, or 0, and then the newcomer is admitted with its figures
-  pub data Judgement : Judged → Type 0 where
-    broken_4 : period_fits l p ≡ false → Judgement (refused 4)
-    broken_5 : period_fits l p ≡ true → budget_fits p q ≡ false → Judgement (refused 5)
-    broken_6 : period_fits l p ≡ true → budget_fits p q ≡ true → holds_fit q hs ≡ false → Judgement (refused 6)
-    broken_7 : period_fits l p ≡ true → budget_fits p q ≡ true → holds_fit q hs ≡ true → passes (placed t i (figures_of p q hs)) l ≡ false → Judgement (refused 7)
-    admitted : Admitted t i l p q hs (figures_of p q hs) → Judgement (record { number = 0; figures = figures_of p q hs })
+  -- the judgement says 4, 5, 6 or 7 and nothing else, or the newcomer is admitted with its figures
+  pub data Judgement : Result Figures Refusal → Type 0 where
+    broken_4 : period_fits l p ≡ false → Judgement (Err PeriodOutOfRange)
+    broken_5 : period_fits l p ≡ true → budget_fits p q ≡ false → Judgement (Err BudgetOutOfRange)
+    broken_6 : period_fits l p ≡ true → budget_fits p q ≡ true → holds_fit q hs ≡ false → Judgement (Err HoldAboveBudget)
+    broken_7 : period_fits l p ≡ true → budget_fits p q ≡ true → holds_fit q hs ≡ true → passes (placed t i (figures_of p q hs)) l ≡ false → Judgement (Err TestNotMet)
+    admitted : Admitted t i l p q hs (figures_of p q hs) → Judgement (Ok (figures_of p q hs))
 
   pub judgement : Judgement (judged t i l p q hs)
   unfolding judged
   judgement = go (period_fits l p) (budget_fits p q) (holds_fit q hs) (passes (placed t i (figures_of p q hs)) l) refl refl refl refl
     where
       go : (a b c d : Bool) → period_fits l p ≡ a → budget_fits p q ≡ b → holds_fit q hs ≡ c → passes (placed t i (figures_of p q hs)) l ≡ d
-          → Judgement (pick (not a) (refused 4) (pick (not b) (refused 5) (pick (not c) (refused 6) (pick (not d) (refused 7) (record { number = 0; figures = figures_of p q hs })))))
+          → Judgement (pick (not a) (Err PeriodOutOfRange) (pick (not b) (Err BudgetOutOfRange) (pick (not c) (Err HoldAboveBudget) (pick (not d) (Err TestNotMet) (Ok (figures_of p q hs))))))
       go false b c d e₁ e₂ e₃ e₄ = broken_4 e₁
       go true false c d e₁ e₂ e₃ e₄ = broken_5 e₁ e₂
       go true true false d e₁ e₂ e₃ e₄ = broken_6 e₁ e₂ e₃

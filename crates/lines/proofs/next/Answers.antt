@@ -1,15 +1,23 @@
--- Outside the block, and at a line that lies in the block alone, what is held stays as it was.
-use Rattle.std.proofs.Common.{sym}
-use Rattle.lines.proofs.Blocks.{step_outside, step_line}
+-- What is held after a step, by where the next line end is found.
+use Rattle.std.proofs.Common.{◌<◌, length, sym, ◌∙◌, arith}
+use Rattle.lines.proofs.Blocks.{step_outside, step_rest, step_ended}
 use Rattle.lines.proofs.next.Goals as goal
 
-pub returns-then-block-from-clause-bytes : goal.returns-then-block-from-clause-bytes
-returns-then-block-from-clause-bytes c =
+pub returns-in_default-clause-bytes : goal.returns-in_default-clause-bytes
+returns-in_default-clause-bytes c =
     let a = c.args in
-    sym (step_outside a.block.now a.held.now a.from a.count c.if-block-from.true).1
+    let out : length a.block.now < a.from = omega (arith, c.in_default.ensures.lookup) in
+    sym (step_outside a.block.now a.held.now a.from a.count out).1
 
-pub returns-then-count-eq0-clause-bytes : goal.returns-then-count-eq0-clause-bytes
-returns-then-count-eq0-clause-bytes c =
+pub returns-in_default-line_end-clause-bytes : goal.returns-in_default-line_end-clause-bytes
+returns-in_default-line_end-clause-bytes c =
     let a = c.args in
-    let f = c.find-end in
-    sym (step_line a.block.now a.held.now a.from a.count f.result f.ensures.is c.if-block-end.false c.if-count-eq0.true).1
+    let r = c.in-Some.ensures.lookup.0 in
+    c.hold.ensures.bytes ∙ sym (step_rest a.block.now a.held.now a.from a.count c.in-Some.rest.now r.2 r.0 c.in_default-line_end.ensures).1
+
+pub returns-clause-bytes : goal.returns-clause-bytes
+returns-clause-bytes c =
+    let a = c.args in
+    let r = c.in-Some.ensures.lookup.0 in
+    c.line_ended-line.ensures.bytes
+    ∙ sym (step_ended a.block.now a.held.now a.from a.count c.in-Some.rest.now r.2 r.0 c.in-Some-line_end.size c.in-Some-line_end.ensures).1

@@ -1,10 +1,7 @@
 -- As far as the loop has come, the servers before it are read.
-use Rattle.std.proofs.Common.{◌≤◌, ◌-◌, ◌≡◌}
-use Rattle.sheet.specs.Sheet.{read_first}
+use Rattle.std.proofs.Common.{◌≡◌}
+use Rattle.sheet.specs.Sheet.{accepted, read_first}
 use Rattle.sheet.proofs.read_first.Given as goal
 
 abbrev pub invariant-loop-i : goal.invariant-loop-i
-invariant-loop-i l = (l.i ≤ l.n) × (l.r ≡ read_first l.sheet l.i)
-
-abbrev pub decreases-loop-i : goal.decreases-loop-i
-decreases-loop-i l = l.n - l.i
+invariant-loop-i l = read_first l.sheet l.i ≡ accepted l.board

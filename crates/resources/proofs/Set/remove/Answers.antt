@@ -4,10 +4,10 @@ use Rattle.resources.specs.Resources.{without, clear_bit, resources}
 use Rattle.resources.proofs.Bits.{no_bit, shifted, and_not_is}
 use Rattle.resources.proofs.Set.remove.Goals as goal
 
-pub returns-then-r-gt7 : goal.returns-then-r-gt7
+pub returns-else-r-lt-RESOURCES : goal.returns-else-r-lt-RESOURCES
 unfolding without clear_bit
-returns-then-r-gt7 c = simp (no_bit resources c.args.self.0 c.args.r (search rules) (omega arith))
+returns-else-r-lt-RESOURCES c = simp (no_bit resources c.args.self.0 c.args.r (search rules) (omega arith))
 
-pub returns : goal.returns
+pub returns-then-r-lt-RESOURCES : goal.returns-then-r-lt-RESOURCES
 unfolding without
-returns c = let a = c.args in rw (shifted 8 a.r (omega arith), and_not_is 8 a.self.0 a.r (search rules) (omega arith))
+returns-then-r-lt-RESOURCES c = let a = c.args in rw (shifted 8 a.r (omega arith), and_not_is 8 a.self.0 a.r (search rules) (omega arith))
