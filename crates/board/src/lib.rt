@@ -20,6 +20,7 @@ use timing::{Figures, Life};
 
 #[derive(Clone, Copy)]
 pub struct Board {
+    // 0 where no frame is set yet (`commissioning`), as a period of 0 is no server: no mark beside it could disagree.
     pub frame: Length,
     // The phase itself, which theorems name (`answers_all`), not a flag for another value.
     pub running: bool,
@@ -101,6 +102,7 @@ impl Answer {
         }
     }
 
+    // Where an answer says no more, document 01 gives it the value 0.
     pub fn value(self) -> u64
         ensures { result ≡ value_of self }
     {
@@ -148,6 +150,7 @@ impl Slot {
         }
     }
 
+    // The bound is said once more, for the public `named`, whose callers see no Slot.
     fn index(self) -> usize
         ensures is { result ≡ self }
         ensures low { result < 16 }

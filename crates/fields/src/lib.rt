@@ -41,7 +41,7 @@ pub struct BadField {
     pub offset: usize,
 }
 
-// The number that a part of four bytes is; a part of another width is 0.
+// The number that a part of four bytes is; a part of another width is 0, as `number_in` has it.
 #[tactic(auto, using(crate::proofs::Numbers::number_four), unfolding(crate::specs::Numbers::number_in))]
 pub fn read4(part: &[u8]) -> u32
     ensures { result ≡ number_in 4 part.now }
@@ -153,6 +153,7 @@ fn form_from(sheet: &[u8], tag: u8) -> Result<usize, BadField>
 {
     let mut at = FRAME_FIELD;
     let mut servers = 0;
+    // The count is the answer.
     while let Some(end) = place_at(sheet, at, tag)? {
         at = end;
         servers += 1;

@@ -7,6 +7,7 @@ use resources::Set;
 use std::io;
 use timing::{Figures, Life, Lock, State};
 
+// The number is document 01's, as it is printed.
 fn put(
     rt: &impl Print,
     clock: u64,

@@ -84,6 +84,7 @@ impl Instant {
         Self::END
     }
 
+    // It stays at the last instant, which `+` would not say.
     #[tactic(auto, unfolding(crate::specs::Quantity::later))]
     pub fn plus(self, l: Length) -> Instant
         ensures { result ≡ later self l }

@@ -6,7 +6,7 @@ ghost use Rattle.timing.specs.Timing.{is_ready, is_started, is_stopped, due, pre
 
 use quantity::{Instant, Length};
 
-// What was admitted. A slot whose period is 0 is not in the table.
+// What was admitted. A slot is in the table exactly if its period is not 0 (`present`): no mark beside it could disagree.
 #[derive(Clone, Copy)]
 pub struct Figures {
     pub period: Length,
