@@ -1,4 +1,5 @@
 // Admission: who may be in the table, and the judgement of a newcomer.
+// What a test is given is what its definition is given (`load t l p`, `fits_at t l p`, `judged t i l p q hs`): so no struct joins them.
 #![tactic(auto)]
 
 ghost use Rattle.std.specs.Prelude.{◌≡◌, ◌*◌, ◌/◌, min};

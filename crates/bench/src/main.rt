@@ -32,6 +32,7 @@ impl Bench {
         let told = desk::serve(self.board, line);
         self.board = told.board;
         let shown = desk::show(self.board);
+        // Lent to `print`, which answers how many bytes it wrote.
         let mut text = [0; 64];
         let n = lines::print(shown.clock, shown.named, told.number, told.value, &mut text);
         self.out.write_all(&text[..n])

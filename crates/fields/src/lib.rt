@@ -111,6 +111,7 @@ fn fits(tag: u8, body: &[u8]) -> bool
     tag == SERVER_TAG && old_body(body)
 }
 
+// The sheet and the tag go from walk to step as in the definitions `form_from`, `place_at`.
 // Where a server's field or the closing one is expected: the end of a server's, nothing at the closing one, or a bad field.
 #[tactic(auto, using(crate::proofs::Heads::head_within), unfolding(crate::specs::Form::place_at, crate::specs::Form::place_of))]
 fn place_at(sheet: &[u8], at: usize, tag: u8) -> Result<Option<usize>, BadField>

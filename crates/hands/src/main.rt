@@ -15,6 +15,7 @@ fn put(
     number: u8,
     value: u64,
 ) -> io::Result<()> {
+    // Lent to `print`, which answers how many bytes it wrote.
     let mut text = [0; 64];
     let n = lines::print(clock, named, number, value, &mut text);
     rt.write_all(&text[..n])

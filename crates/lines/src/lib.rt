@@ -163,7 +163,8 @@ fn width(n: u64) -> usize
     n.max(1).ilog10() as usize + 1
 }
 
-// Not by `write!`, as `print` says. A number's digits from a place on, and a byte behind them; the place behind that. The last digit comes first.
+// Not by `write!`, as `print` says; that it fits is asked of its own place.
+// A number's digits from a place on, and a byte behind them; the place behind that. The last digit comes first.
 fn put(buffer: &mut [u8], at: usize, n: u64, then: u8) -> usize
     requires { at + length (digits_of n) < length buffer.old }
     ensures next { result ≡ at + length (ended (digits_of n) then) }

@@ -50,6 +50,7 @@ fn put_length(buffer: &mut [u8], at: usize, length: Length)
     fields::put(buffer, at, &length.0.to_be_bytes());
 }
 
+// Each part asks that it fits from its own place on, here and below: a type for that would serve one function alone.
 // The eight holds from an offset on.
 #[tactic(auto, using(crate::proofs::Laws::placed_nothing, crate::proofs::Laws::holds_on), unfolding(crate::specs::Sheet::holds_of))]
 fn put_holds(buffer: &mut [u8], at: usize, f: Figures)
@@ -179,6 +180,7 @@ fn answered(o: Outcome, tag: usize) -> Result<Board, BadSheet>
     }
 }
 
+// Each step asks that the sheet has its own field, here and below: a type for that would serve one function alone.
 // The frame.
 #[tactic(auto, unfolding(crate::specs::Sheet::read_first))]
 fn begin(sheet: &[u8]) -> Result<Board, BadSheet>

@@ -92,6 +92,7 @@ impl Line {
 
 // An accepted sheet, written back behind a space.
 fn put_back(board: Board, text: &mut Text) -> io::Result<()> {
+    // Lent to `sheet::write`, which answers how many bytes it wrote.
     let mut back = [0; 1024];
     let size = match sheet::write(board, &mut back) {
         Ok(size) => size,

@@ -1,4 +1,5 @@
 // One server: what was admitted stands apart from what changes, so that the table is one array and the lives another.
+// What a rule is given is what its definition is given (`arrived f l now`, `woken f l now`): so no struct joins them.
 #![tactic(auto)]
 
 ghost use Rattle.std.specs.Prelude.{◌≡◌};
