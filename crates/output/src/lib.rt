@@ -3,7 +3,7 @@
 
 ghost use Rattle.std.specs.Prelude.{◌≡◌, ◌+◌, ◌-◌, ◌<◌, ◌≤◌, [], ◌++◌, length, take, min, None, IfOk, OnOk, OnErr};
 ghost use Rattle.std.specs.Io.{WritesAtMost};
-ghost use Rattle.std.specs.Io.KnownBytes.{WriteAppends, Keeps};
+ghost use Rattle.std.specs.Io.KnownBytes.{WriteAppends, Keeps, Appends};
 ghost use Rattle.output.specs.Output.{waiting, kept};
 
 use arrayvec::ArrayVec;
@@ -52,6 +52,22 @@ impl<P: Print, const N: usize> Output<P, N> {
     }
 }
 
+impl<P: Print, const N: usize> Output<P, N> {
+    // The bytes that did not fit at once, until all are taken.
+    fn write_rest(&mut self, buf: &[u8]) -> io::Result<()>
+        ensures { OnOk result (length buf.now ≡ 0 → self.new ≡ self.old) }
+    {
+        let mut rest = buf;
+        while !rest.is_empty() {
+            match self.write(rest)? {
+                0 => return Err(ErrorKind::WriteZero.into()),
+                n => rest = &rest[n..],
+            }
+        }
+        Ok(())
+    }
+}
+
 impl<P: Print, const N: usize> Write for Output<P, N> {
     // Room is made for all of the bytes, and as many wait as the buffer takes. An error is that of the write alone.
     fn write(&mut self, buf: &[u8]) -> io::Result<usize>
@@ -68,15 +84,12 @@ impl<P: Print, const N: usize> Write for Output<P, N> {
     }
 
     // What was interrupted is not tried again, as std's own would: a part of what waits may have been written.
-    fn write_all(&mut self, buf: &[u8]) -> io::Result<()> {
-        let mut rest = buf;
-        while !rest.is_empty() {
-            match self.write(rest)? {
-                0 => return Err(ErrorKind::WriteZero.into()),
-                n => rest = &rest[n..],
-            }
-        }
-        Ok(())
+    fn write_all(&mut self, buf: &[u8]) -> io::Result<()>
+        ensures bytes { OnOk result (Appends None None buf.now) }
+        ensures whole { OnOk result (length buf.now ≤ N → self.new ≡ kept N self.old (length buf.now) ++ buf.now) }
+    {
+        let n = self.write(buf)?;
+        self.write_rest(&buf[n..])
     }
 
     // What waits is written, and nothing waits then.
