@@ -1,12 +1,17 @@
 // The bench program: lines of calls from standard input, a line of answer for each.
 #![tactic(auto)]
 
+ghost use Rattle.std.specs.Prelude.{◌≡◌, OnOk};
+
 use board::Board;
 use input::Program;
 use lines::{Line, Step};
 use output::Output;
 use std::io;
 use std::io::{Stdout, Write};
+
+// The longest answer's line has 49 bytes: where fewer than these are free, what waits is written before the next is made.
+const ROOM: usize = 64;
 
 // The board, the bytes held of a line that crosses a block's end, counted as `lines::next` takes them, and the answers that wait.
 #[derive(Drop)]
@@ -27,13 +32,16 @@ impl Bench {
         }
     }
 
-    // One line served. The longest answer's line has 49 bytes.
-    fn answer(&mut self, line: Line) -> io::Result<()> {
+    // One line served. What is held is not touched.
+    fn answer(&mut self, line: Line) -> io::Result<()>
+        ensures { OnOk result ((self.new.count ≡ self.old.count) × (self.new.held ≡ self.old.held)) }
+    {
+        self.out.make_room(ROOM)?;
         let told = desk::serve(self.board, line);
         self.board = told.board;
         let shown = desk::show(self.board);
         // Lent to `print`, which answers how many bytes it wrote.
-        let mut text = [0; 64];
+        let mut text = [0; ROOM];
         let n = lines::print(shown.clock, shown.named, told.number, told.value, &mut text);
         self.out.write_all(&text[..n])
     }

@@ -1,9 +1,10 @@
 -- A seek finds the first number that passes: by going from n to n + 1.
-use Prim.Native.Nat.{ℕ, zero, suc, ◌<◌}
+use Prim.Native.Nat.{ℕ, zero, suc, ◌+◌, ◌<◌}
 use mathlib.Core.Path.{◌≡◌, refl, sym}
 use mathlib.Core.Logic.{⊎_elim}
 use mathlib.Core.Bool.{Bool, true, false}
 use native.Mathlib.Omega.{arith}
+use native.Mathlib.Numerals.{add-one}
 use Rattle.terms.proofs.Over.{last_or_below}
 use Rattle.terms.proofs.Tests.{true_or_false}
 use Rattle.std.specs.Prelude.{Option, Some, None}
@@ -60,3 +61,7 @@ module _ (f : ℕ → Bool) where
   search_only n i h t only =
       search_first n i h
       (search_none i (λ j l. ⊎_elim (λ e. absurd (omega (arith, only j (omega arith) e))) (λ e. e) (true_or_false (f j)))) t
+
+  pub search_next : (n : ℕ) → seek f n ≡ None → f n ≡ false → seek f (n + 1) ≡ None
+  unfolding seek
+  search_next n e t = rw add-one (simp (e, t))

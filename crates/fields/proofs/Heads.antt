@@ -1,5 +1,5 @@
 -- A head read at an offset and a field standing there are the same: its two length bytes are the body's length.
-use Prim.Native.Nat.{ℕ, suc, ◌+◌, ◌*◌, ◌-◌, ◌<◌, ◌≤◌}
+use Prim.Native.Nat.{ℕ, suc, ◌+◌, ◌-◌, ◌<◌, ◌≤◌}
 use mathlib.Core.Path.{◌≡◌, refl, sym, ap, ◌∙◌}
 use mathlib.Core.Bool.{Bool, true, false}
 use mathlib.Core.List.{List, ◌∷◌, ◌++◌, append_assoc}
@@ -11,10 +11,10 @@ use native.Mathlib.Decide.{dec_lt}
 use native.Mathlib.Numerals.{add-one}
 use borrow.Author.Tests.{leb-true, ltb-false, lt-leb, le-leb, le-ltb, lt-ltb}
 use Rattle.terms.specs.Words.{pick}
-use Rattle.fields.specs.Numbers.{Bytes, number_of, bytes_of}
+use Rattle.fields.specs.Numbers.{Bytes, number_of, bytes_of, number_in}
 use Rattle.fields.specs.Fields.{field_of, length_at, head_at}
 use Rattle.fields.specs.declared.Head.TheVariants.{Missing, Cut, Field}
-use Rattle.fields.proofs.Numbers.{bytes_length, number_kept, bytes_kept, number_below, number_two}
+use Rattle.fields.proofs.Numbers.{bytes_length, number_kept, bytes_kept, number_below, number_in_lem}
 
 pub field_length : (tag : ℕ) (body : List ℕ) → length (field_of tag body) ≡ length body + 3
 unfolding field_of
@@ -150,10 +150,20 @@ missing_end s at = go (leb (length s) at) (ltb (length s) (at + 3 + length_at s 
     go false false l e = let z : ◌≡◌ {A = ℕ} 0 1 = cc in omega arith
 
 -- the two bytes behind a tag, as the code reads them
-pub length_read : (s : List ℕ) (at : ℕ) → at + 3 ≤ length s → get_or s (at + 1) 0 * 256 + get_or s (at + 2) 0 ≡ length_at s at
+pub length_read : (s : List ℕ) (at : ℕ) → at + 3 ≤ length s → number_in 2 (take (at + 3 - (at + 1)) (drop (at + 1) s)) ≡ length_at s at
 unfolding length_at
 length_read s at h =
-    let two = take 2 (drop (at + 1) s) in
-    let first : get_or two 0 0 ≡ get_or s (at + 1) 0 = get_or-take 2 (drop (at + 1) s) 0 0 (omega arith) ∙ get_or-drop (at + 1) s 0 0 ∙ ap (λ k. get_or s k 0) (omega arith) in
-    let second : get_or two 1 0 ≡ get_or s (at + 2) 0 = get_or-take 2 (drop (at + 1) s) 1 0 (omega arith) ∙ get_or-drop (at + 1) s 1 0 ∙ ap (λ k. get_or s k 0) (omega arith) in
-    omega (arith, number_two two (length-take-le 2 (drop (at + 1) s) (rw length-drop (omega arith))), first, second)
+    let two : at + 3 - (at + 1) ≡ 2 = omega arith in
+    rw two (number_in_lem 2 (take 2 (drop (at + 1) s)) (length-take-le 2 (drop (at + 1) s) (rw length-drop (omega arith))))
+
+-- both ways, on the whole sheet: a field between what is before and behind it is read, and what is read is such a field
+pub head_between : (before : List ℕ) (tag : ℕ) (body behind : List ℕ) → length body < 65536
+    → head_at (before ++ (field_of tag body ++ behind)) (length before) ≡ Field tag (length before + 3) (length body)
+head_between before tag body behind small =
+    let rest = field_of tag body ++ behind in
+    head_of_field (before ++ rest) (length before) tag body behind small (drop-append_seam before rest)
+
+pub between_of_head : (s : List ℕ) (at tag start size : ℕ) → Bytes s → head_at s at ≡ Field tag start size
+    → s ≡ take at s ++ (field_of tag (take size (drop start s)) ++ drop (start + size) s)
+between_of_head s at tag start size h e =
+    sym (take-append-drop at s) ∙ ap (λ l. take at s ++ l) (field_of_head s at tag start size h e).bytes

@@ -47,6 +47,13 @@ number_of_bytes (suc w) x =
 pub number_kept : (w x : ℕ) → x < 256 ^ w → number_of (bytes_of w x) ≡ x
 number_kept w x h = number_of_bytes w x ∙ mod-eq_of_lt h
 
+-- each of a number's bytes is a byte
+pub bytes_are : (w x : ℕ) → Bytes (bytes_of w x)
+unfolding bytes_of
+bytes_are zero x i = omega arith
+bytes_are (suc w) x zero = mod-lt (x / 256 ^ w) (omega arith)
+bytes_are (suc w) x (suc i) = bytes_are w x i
+
 pub tail_bytes : (b : ℕ) (bs : List ℕ) → Bytes (b ∷ bs) → Bytes bs
 tail_bytes b bs h i = h (suc i)
 

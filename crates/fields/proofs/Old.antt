@@ -1,21 +1,22 @@
 -- The old form: the walk's laws at tag 2 and length 40, and the offsets, since each server's field takes 43 bytes.
 use Prim.Native.Nat.{ℕ, suc, ◌+◌, ◌*◌, ◌<◌, ◌≤◌, suc-le-suc}
-use mathlib.Core.Path.{◌≡◌, refl, ap, ◌∙◌}
+use mathlib.Core.Path.{◌≡◌, refl, sym, ap, ◌∙◌}
 use mathlib.Core.Bool.{true}
-use mathlib.Core.List.{List, [], ◌∷◌, ◌++◌}
+use mathlib.Core.List.{List, [], ◌∷◌, ◌++◌, append-nil}
 use lib.ListN.{length, get_or, take, drop, length-append}
 use lib.Seq.{length-take-le, get_or-take}
 use native.Mathlib.Omega.{arith}
 use borrow.Author.Tests.{eqb-true}
 use Rattle.fields.specs.Numbers.{Bytes}
-use Rattle.fields.specs.Fields.{field_of}
+use Rattle.fields.specs.Fields.{field_of, head_at}
 use Rattle.fields.specs.Form.{servers_of, Each, InForm, FirstBad, in_form, not_in_form}
 use Rattle.fields.specs.Old.{old_body, form_of}
 use Rattle.std.specs.Prelude.{Err}
 use Rattle.fields.specs.declared.BadField.{BadField}
-use Rattle.fields.proofs.Heads.{field_length, body_is}
+use Rattle.fields.specs.declared.Head.TheVariants.{Field}
+use Rattle.fields.proofs.Heads.{field_length, head_of_field, body_is}
 use Rattle.fields.proofs.Bad.{first_bad, bad_first}
-use Rattle.fields.proofs.Forms.{form_in, form_none, form_out, frame_is, server_on, sheet_length}
+use Rattle.fields.proofs.Forms.{form_in, form_none, form_out, frame_is, server_on, last_on, sheet_length}
 
 pub old_width : (body : List ℕ) → old_body body ≡ true → length body ≡ 40
 unfolding old_body
@@ -85,14 +86,22 @@ module _ {s : List ℕ} {n : ℕ} (w : InForm 2 old_body s n) where
     unfolding behind
     stands = rw (before_width i (omega arith)) at (server_on 2 w.bodies w.frame s w.frame_length w.bytes i inside)
 
-    -- the i-th server's body
+    -- the i-th server's field, and its body
+    pub old_server : head_at s (7 + 43 * i) ≡ Field 2 (7 + 43 * i + 3) 40
+    old_server = rw width at (head_of_field s (7 + 43 * i) 2 (get_or w.bodies i []) behind (omega (arith, width)) stands)
+
     pub old_body_lem : take 40 (drop (7 + 43 * i + 3) s) ≡ get_or w.bodies i []
     old_body_lem = rw width at (body_is s (7 + 43 * i) 2 (get_or w.bodies i []) behind stands)
 
   all_width : length (servers_of 2 w.bodies) ≡ 43 * n
   all_width = servers_width w.bodies w.fit ∙ ap (λ k. 43 * k) w.number
 
-  -- the sheet's length, and the frame
+  -- the closing field, the sheet's length, and the frame
+  pub old_last : head_at s (7 + 43 * n) ≡ Field 255 (7 + 43 * n + 3) 0
+  old_last =
+      let here : drop (7 + 43 * n) s ≡ field_of 255 [] = rw all_width at (last_on 2 w.bodies w.frame s w.frame_length w.bytes) in
+      head_of_field s (7 + 43 * n) 255 [] [] (omega arith) (here ∙ sym (append-nil (field_of 255 [])))
+
   pub old_length : length s ≡ 10 + 43 * n
   old_length = rw all_width at (sheet_length 2 w.bodies w.frame s w.frame_length w.bytes)
 

@@ -3,7 +3,7 @@ use Prim.Native.Nat.{ℕ, suc, ◌+◌, ◌-◌, ◌<◌, ◌≤◌}
 use mathlib.Core.Path.{◌≡◌, sym, ap, ◌∙◌}
 use mathlib.Core.List.{List, [], ◌∷◌, ◌++◌, append_assoc}
 use lib.ListN.{length, get_or, take, drop, length-append, length-drop}
-use lib.Seq.{take_at, drop_at, drop-drop, length-take-le}
+use lib.Seq.{sets, sets-eq, take_at, drop_at, drop-drop, length-take-le}
 use native.Mathlib.Omega.{arith}
 use native.Mathlib.Decide.{dec_le}
 use borrow.Rule.Slice.PartMut.{put_mid}
@@ -22,6 +22,10 @@ module _ (b : List ℕ) (at : ℕ) (xs : List ℕ) where
   pub placed_out : length b < at + length xs → placed b at xs ≡ b
   unfolding placed
   placed_out h = simp (lt-leb _ _ h)
+
+  -- stores one after the other
+  pub placed_sets : at + length xs ≤ length b → sets b at xs ≡ placed b at xs
+  placed_sets h = sets-eq xs b at h ∙ sym (placed_in h)
 
   -- a part of the buffer that is overwritten
   pub placed_part : at + length xs ≤ length b → put_mid at (at + length xs - at) b xs ≡ placed b at xs

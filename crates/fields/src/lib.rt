@@ -52,6 +52,17 @@ pub fn read4(part: &[u8]) -> u32
     }
 }
 
+// The number that a part of two bytes is; a part of another width is 0 here too.
+#[tactic(auto, using(crate::proofs::Numbers::number_two), unfolding(crate::specs::Numbers::number_in))]
+pub fn read2(part: &[u8]) -> u16
+    ensures { result ≡ number_in 2 part.now }
+{
+    match part.as_array() {
+        Some(bytes) => u16::from_be_bytes(*bytes),
+        None => 0,
+    }
+}
+
 // Bytes from an offset on; nothing moves where they do not fit.
 #[tactic(auto, using(crate::proofs::Placing::placed_part, crate::proofs::Placing::placed_out))]
 pub fn put(buffer: &mut [u8], at: usize, bytes: &[u8])
@@ -84,7 +95,7 @@ pub fn head_at(sheet: &[u8], at: usize) -> Head
         return Head::Cut;
     }
     let start = at + HEAD_SIZE;
-    let size = usize::from(u16::from_be_bytes([sheet[at + 1], sheet[at + 2]]));
+    let size = usize::from(read2(&sheet[at + 1..start]));
     if sheet.len() - start < size {
         return Head::Cut;
     }

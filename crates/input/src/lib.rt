@@ -38,5 +38,6 @@ pub fn serve<R: Read, P: Program>(input: &mut R, program: &mut P) -> io::Result<
             }
         }
     }
+    program.flush()?;
     Err(ErrorKind::TimedOut.into())
 }

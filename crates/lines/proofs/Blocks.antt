@@ -1,10 +1,10 @@
--- A step by where the next line end is found: outside, none, one in the block.
+-- A step by where the next line end is found: outside, none, one in the block, alone or behind what is held.
 use Prim.Native.Nat.{ℕ, ◌+◌, ◌-◌, ◌≤◌, ◌<◌, min}
 use mathlib.Core.Path.{◌≡◌, refl, sym, ◌∙◌}
 use mathlib.Core.List.{List, []}
 use native.Mathlib.Omega.{arith}
 use native.Mathlib.Nat.{le_of_lt}
-use borrow.Author.Tests.{lt-ltb, le-ltb}
+use borrow.Author.Tests.{lt-ltb, le-ltb, eq-eqb, ne_eqb}
 use lib.Dec.{eqb}
 use lib.ListN.{length, take, drop, drop_of_length-le, length-drop}
 use lib.Seq.{paste-zero, take_all}
@@ -54,3 +54,28 @@ module _ (block held : List ℕ) (from count : ℕ) where
         let b = before_some line_end rest size h in
         let t = lt-ltb (from + size) (length block) (omega (arith, whole)) in
         rw (← behind) (simp (b.0, t) (refl, refl))
+
+  -- the same by the place of the line end: a line that lies in the block alone, and one behind what is held
+  module _ (end : ℕ) (found : end ≡ from + before line_end (drop from block)) where
+    abbrev part : List ℕ
+    part = take (end - from) (drop from block)
+
+    size : end - from ≡ before line_end (drop from block)
+    size = omega arith
+
+    pub step_line : end < length block → count ≡ 0
+        → (step_of block from held count ≡ one_line (line_of part) (end + 1))
+        × (held_after block from held count ≡ held)
+    unfolding step_of held_after line_bytes
+    step_line h z =
+        let t = lt-ltb (from + before line_end (drop from block)) (length block) (omega arith) in
+        simp (t, eq-eqb _ _ z) (rw (size, found) (refl, refl))
+
+    pub step_gathered : end < length block → (count ≡ 0 → ⊥)
+        → (step_of block from held count
+        ≡ one_line (line_of (take (count + room_for held count part) (held_with held count part))) (end + 1))
+        × (held_after block from held count ≡ held_with held count part)
+    unfolding step_of held_after line_bytes
+    step_gathered h z =
+        let t = lt-ltb (from + before line_end (drop from block)) (length block) (omega arith) in
+        simp (t, ne_eqb _ _ z) (rw (size, found) (refl, refl))

@@ -1,5 +1,5 @@
 -- Stores at consecutive places: one more in front, or more behind.
-use Prim.Native.Nat.{ℕ, suc, ◌+◌, ◌<◌, ◌≤◌}
+use Prim.Native.Nat.{ℕ, suc, ◌+◌, ◌-◌, ◌<◌, ◌≤◌}
 use mathlib.Core.Path.{◌≡◌, refl, ◌∙◌}
 use mathlib.Core.List.{List, [], ◌∷◌, ◌++◌}
 use native.Mathlib.Omega.{arith}
@@ -27,6 +27,13 @@ sets_behind (v ∷ vs) ws l i =
 -- from the start on
 pub sets_start : (vs l : List ℕ) → length vs ≤ length l → sets l 0 vs ≡ vs ++ drop (length vs) l
 sets_start vs l h = let e : 0 + length vs ≡ length vs = omega arith in sets-eq vs l 0 (omega arith) ∙ rw e
+
+-- the first of the bytes and one behind them, where the others stand already
+pub sets_done : (b l ds tail : List ℕ) (at k w x then : ℕ) → b ≡ sets l k tail → k ≡ suc at → ds ≡ x ∷ tail → w ≡ length ds
+    → set (set b (k - 1) x) (at + w) then ≡ sets l at (ds ++ (then ∷ []))
+sets_done b l ds tail at k w x then eb ek ed ew =
+    let e : k - 1 ≡ at = omega arith in
+    rw (ew, ed, e, eb, sets_front tail l k at x ek) (sets_behind (x ∷ tail) (then ∷ []) l at)
 
 -- one more behind them
 pub sets_end : (l ds : List ℕ) (i w then : ℕ) → w ≡ length ds → set (sets l i ds) (i + w) then ≡ sets l i (ds ++ (then ∷ []))

@@ -23,12 +23,23 @@ or_true : (x : Bool) → (x || true) ≡ true
 or_true true = refl
 or_true false = refl
 
+-- a list of one
+pub alone : (s : List ℕ) → length s ≡ 1 → s ≡ get_or s 0 0 ∷ []
+alone [] h = absurd (omega arith)
+alone (c ∷ []) h = refl
+alone (c ∷ d ∷ s) h = absurd (omega arith)
+
 pub value_from_grows : (s : List ℕ) (v : ℕ) → v ≤ value_from v s
 unfolding value_from
 value_from_grows [] v = omega arith
 value_from_grows (c ∷ s) v = omega (arith, value_from_grows s (v * 10 + (c - 48)))
 
 -- one step of reading
+pub pushed_all_next : (s : List ℕ) (n i : ℕ) → i < length s
+    → pushed_all n (drop i s) ≡ option_and_then (λ m. pushed_all m (drop (i + 1) s)) (pushed n (get_or s i 0))
+unfolding pushed_all
+pushed_all_next s n i h = rw (drop-cons s i 0 h, add-one)
+
 pub pushed_all_some : (s : List ℕ) (n m i : ℕ) → i < length s → Some m ≡ pushed n (get_or s i 0)
     → pushed_all n (drop i s) ≡ pushed_all m (drop (i + 1) s)
 unfolding pushed_all
@@ -67,6 +78,10 @@ pub number_empty : (s : List ℕ) → length s ≡ 0 → number_of s ≡ None
 unfolding number_of is_number
 number_empty [] h = refl
 number_empty (c ∷ s) h = absurd (omega arith)
+
+pub number_zero : (s : List ℕ) → length s ≡ 1 → get_or s 0 0 ≡ 48 → number_of s ≡ Some 0
+unfolding number_of is_number are_digits value_of value_from
+number_zero s h e = rw (alone s h, e)
 
 pub number_led : (s : List ℕ) → 2 ≤ length s → get_or s 0 0 ≡ 48 → number_of s ≡ None
 unfolding number_of is_number

@@ -49,7 +49,15 @@ digits_more n h k = digits_step 19 n h ∙ ap (λ (s : List ℕ). s ++ ((48 + n 
 pub width_more : (n : ℕ) → 10 ≤ n → n ≤ largest_number → length (digits_of n) ≡ length (digits_of (n / 10)) + 1
 width_more n h k = rw (digits_more n h k, length-append)
 
--- twenty digits at most
+-- one digit at least, and twenty at most
+pub digits_least : (n : ℕ) → 1 ≤ length (digits_of n)
+unfolding digits_of digits_within
+digits_least n = least (ltb n 10)
+  where
+    least : (t : Bool) → 1 ≤ length (pick t ((48 + n) ∷ []) (digits_within 19 (n / 10) ++ ((48 + n % 10) ∷ [])))
+    least true = omega arith
+    least false = rw length-append (omega arith)
+
 digits_most : (k n : ℕ) → length (digits_within k n) ≤ k
 unfolding digits_within
 digits_most zero n = omega arith

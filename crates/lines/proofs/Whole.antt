@@ -48,6 +48,11 @@ unfolding fields_of letter_of
 line_empty [] h = either_way [] (no_letter [] [] refl)
 line_empty (c ∷ l) h = absurd (omega arith)
 
+pub line_spaced : (l : List ℕ) → (length l ≡ 0 → ⊥) → get_or l 0 0 ≡ 32 → line_of l ≡ malformed
+unfolding fields_of letter_of
+line_spaced [] h e = absurd (h refl)
+line_spaced (c ∷ l) h e = either_way (c ∷ l) (simp (eq-eqb c 32 e) (no_letter [] (fields_of l) refl))
+
 -- a space is no letter
 spaced : (n : Option (ArrayVec ℕ)) → called_by 32 n ≡ malformed
 unfolding call_of call_by asks

@@ -8,7 +8,7 @@ ghost use Rattle.output.specs.Output.{waiting, kept};
 
 use arrayvec::ArrayVec;
 use std::io;
-use std::io::{ErrorKind, Write};
+use std::io::Write;
 use std::marker::Model;
 
 /// A printer behind a buffer of `N` bytes.
@@ -39,7 +39,7 @@ impl<P: Print, const N: usize> Output<P, N> {
 
     // Room for so many bytes more: where it is not there, what waits is written first. An error is that of the write alone.
     #[tactic(auto, unfolding(crate::specs::Output::waiting))]
-    fn make_room(&mut self, room: usize) -> io::Result<()>
+    pub fn make_room(&mut self, room: usize) -> io::Result<()>
         ensures ok { OnOk result (self.new ≡ kept N self.old room) }
         ensures err { OnErr result (self.new ≡ self.old) }
         ensures full { OnErr result (N < length self.old + room) }
@@ -47,22 +47,6 @@ impl<P: Print, const N: usize> Output<P, N> {
     {
         if self.bytes.remaining_capacity() < room {
             return self.flush();
-        }
-        Ok(())
-    }
-}
-
-impl<P: Print, const N: usize> Output<P, N> {
-    // The bytes that did not fit at once, until all are taken.
-    fn write_rest(&mut self, buf: &[u8]) -> io::Result<()>
-        ensures { OnOk result (length buf.now ≡ 0 → self.new ≡ self.old) }
-    {
-        let mut rest = buf;
-        while !rest.is_empty() {
-            match self.write(rest)? {
-                0 => return Err(ErrorKind::WriteZero.into()),
-                n => rest = &rest[n..],
-            }
         }
         Ok(())
     }
@@ -83,13 +67,21 @@ impl<P: Print, const N: usize> Write for Output<P, N> {
         self.bytes.write(buf)
     }
 
+    // More bytes than the buffer takes are written behind what waits, and nothing waits then.
     // What was interrupted is not tried again, as std's own would: a part of what waits may have been written.
     fn write_all(&mut self, buf: &[u8]) -> io::Result<()>
         ensures bytes { OnOk result (Appends None None buf.now) }
         ensures whole { OnOk result (length buf.now ≤ N → self.new ≡ kept N self.old (length buf.now) ++ buf.now) }
+        ensures beyond { OnOk result (N < length buf.now → self.new ≡ []) }
+        ensures err { OnErr result (length buf.now ≤ N → self.new ≡ self.old) }
+        ensures full { OnErr result (N < length self.old + length buf.now) }
     {
-        let n = self.write(buf)?;
-        self.write_rest(&buf[n..])
+        if N < buf.len() {
+            self.flush()?;
+            return self.to.write_all(buf);
+        }
+        self.write(buf)?;
+        Ok(())
     }
 
     // What waits is written, and nothing waits then.

@@ -2,25 +2,32 @@
 use Prim.Native.Nat.{ℕ, ◌+◌, ◌-◌, ◌*◌, ◌/◌, ◌<◌, ◌≤◌, ◌^◌}
 use mathlib.Core.Path.{◌≡◌, refl, sym, ap, ap₂, ◌∙◌}
 use mathlib.Core.Logic.{◌≢◌}
-use mathlib.Core.Bool.{true}
+use mathlib.Core.Bool.{true, false, not}
 use mathlib.Core.List.{List, [], ◌++◌, append-nil}
 use native.Mathlib.Omega.{arith}
 use native.Mathlib.Nat.{le_antisymm, le-div_iff_mul-le}
 use native.Mathlib.Decide.{dec_le, ℕ_discrete}
+use lib.Dec.{leb, eqb}
+use borrow.Author.Tests.{leb-false, not-false}
 use lib.ListN.{length, length-set}
 use lib.Seq.{get_or-set_same, get_or-set_other}
+use Rattle.std.specs.Prelude.{Result, Ok, Err}
+use Rattle.terms.proofs.Tests.{either, by_test}
 use Rattle.quantity.specs.declared.Instant.{Instant}
 use Rattle.quantity.specs.Quantity.{clock_end}
 use Rattle.resources.specs.declared.Set.{Set}
 use Rattle.resources.specs.Resources.{resources, has}
 use Rattle.events.specs.Events.{Event}
+use Rattle.refusals.specs.declared.Refusal.{Refusal}
+use Rattle.refusals.specs.Refusals as refusals
 use Rattle.timing.specs.declared.Figures.{Figures}
 use Rattle.timing.specs.declared.Life.{Life}
-use Rattle.timing.specs.Timing.{begun, tr, replenished}
+use Rattle.timing.specs.Timing.{begun, is_stopped, tr, replenished}
 use Rattle.timing.specs.Timing.Laws.{tr_A0, tr_least, replenished_left, replenished_state, replenished_exact}
 use Rattle.admission.specs.Admission.{slots, slot_of, period_of, in_table}
 use Rattle.board.specs.declared.Board.{Board}
 use Rattle.board.specs.Board.{figures_at, life_at, with_life, with_sets}
+use Rattle.board.specs.Calls.{standing}
 use Rattle.guarantee.specs.Table.{Table}
 use Rattle.guarantee.specs.Board.{View}
 use Rattle.guarantee.specs.Step.{Locking, none, Bits}
@@ -33,6 +40,30 @@ use Rattle.guarantee.proofs.Use.{Telling, Changing, calls}
 use Rattle.promise.proofs.Lawful.{Kept, table_of, lawful_table}
 use Rattle.promise.proofs.Naming.{server_of}
 use Rattle.promise.proofs.Look.{view_of, look}
+
+-- the checks that server calls share are passed: a slot of the table, not stopped
+standing_slot : (b : Board) (i : ℕ) {j : ℕ} → standing b i ≡ Ok j → (i < slots) × (in_table b.table i ≡ true)
+unfolding standing
+standing_slot b i {j} =
+    by_test Says (not b.running) (λ e z. absurd (cc)) (λ e.
+    by_test Says (leb slots i) (λ f z. absurd (cc)) (λ f.
+    by_test Says (not (in_table b.table i)) (λ g z. absurd (cc)) (λ g z. (leb-false slots i f, not-false (in_table b.table i) g))))
+  where
+    Says : Result ℕ Refusal → Type 0
+    Says found = found ≡ Ok j → (i < slots) × (in_table b.table i ≡ true)
+
+-- and they refuse with 1, 8 or 16: with no other number k
+pub standing_no : (b : Board) (i k : ℕ) {why : Refusal} → eqb 1 k ≡ false → eqb 8 k ≡ false → eqb 16 k ≡ false → standing b i ≡ Err why
+    → eqb (refusals.number_of why) k ≡ false
+unfolding standing
+standing_no b i k {why} one eight stopped =
+    let Not : Result ℕ Refusal → Type 0 = λ found. found ≡ Err why → eqb (refusals.number_of why) k ≡ false in
+    either Not (not b.running) (refused one)
+    (either Not (leb slots i) (refused eight)
+    (either Not (not (in_table b.table i)) (refused eight) (either Not (is_stopped (life_at b i).state) (refused stopped) (λ e. absurd (cc)))))
+  where
+    refused : {r : Refusal} → eqb (refusals.number_of r) k ≡ false → ◌≡◌ {A = Result ℕ Refusal} (Err r) (Err why) → eqb (refusals.number_of why) k ≡ false
+    refused {r} h e = let same : r ≡ why = cc in rw same at h
 
 module _ (n l : ℕ) (t : List Figures) (w : Kept n l t) where
   abbrev pub T : Table
@@ -64,6 +95,10 @@ module _ (n l : ℕ) (t : List Figures) (w : Kept n l t) where
   -- the caller is a server of the table
   pub served : (b : Board) (es : List Event) → Bound b es → (i : ℕ) → in_table b.table i ≡ true → i < n
   served b es B i here = server_of n l t w i (sym (ap (λ (x : List Figures). in_table x i) B.table) ∙ here)
+
+  -- and so is one that passes the checks that server calls share, in a slot
+  pub served_standing : (b : Board) (es : List Event) → Bound b es → (i : ℕ) {j : ℕ} → standing b i ≡ Ok j → (i < slots) × (i < n)
+  served_standing b es B i z = let (slot, here) = standing_slot b i z in (slot, served b es B i here)
 
   -- the argument's replenishment instant and replenished view are ours
   pub tr_same : (i : ℕ) → i < n → (x : Life) → (tr (slot_of t i) x).0 ≡ T.tr i x.left.0 0 x.deadline.0

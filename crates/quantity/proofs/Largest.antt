@@ -6,9 +6,10 @@ use lib.ListN.{length, get_or}
 use Rattle.std.proofs.Common.{arith, rules}
 use Rattle.std.specs.List.{fold, reduce}
 use Rattle.std.specs.Option.{unwrap_or}
-use Rattle.std.specs.Ordering.{max_by_ordering, nat_cmp}
+use Rattle.std.specs.Ordering.{max_by_ordering, nat_cmp, ord_max}
 use Rattle.terms.specs.Words.{largest}
 use Rattle.quantity.specs.declared.Length.{Length}
+use Rattle.quantity.specs.contracts.LengthOrd.TheImpl as length_ord
 use Rattle.quantity.specs.Quantity.{ticks, larger}
 
 largest_first : (f : ℕ → ℕ) (n : ℕ) → largest f (suc n) ≡ max (f 0) (largest (λ k. f (suc k)) n)
@@ -27,6 +28,14 @@ kept_is l m = search rules
 pub kept_larger : (l m : Length) → kept l m ≡ larger l m
 unfolding larger
 kept_larger l m = ap ticks (kept_is l m)
+
+-- and so is the `max` of two lengths, which the derived order gives
+max_is : (l m : Length) → (ord_max (length_ord.ghosts).cmp l m).0 ≡ max l.0 m.0
+max_is l m = search rules
+
+pub max_larger : (l m : Length) → ord_max (length_ord.ghosts).cmp l m ≡ larger l m
+unfolding larger
+max_larger l m = ap ticks (max_is l m)
 
 -- of what each element of a list says
 module _ {A : Type 0} (d : A) (of : A → Length) where

@@ -1,10 +1,22 @@
--- What the quantities come to: plain arithmetic wherever the board's ranges hold.
-use Prim.Native.Nat.{ℕ, ◌+◌, ◌-◌, ◌*◌, ◌/◌, ◌≤◌, min}
-use mathlib.Core.Path.{◌≡◌, refl, ap}
+-- What the quantities come to: products that fit, and plain arithmetic wherever the board's ranges hold.
+use Prim.Native.Nat.{ℕ, ◌+◌, ◌-◌, ◌*◌, ◌/◌, ◌^◌, ◌<◌, ◌≤◌, min, max}
+use mathlib.Core.Path.{◌≡◌, refl, ap, subst⁻¹}
 use native.Mathlib.Omega.{arith}
+use native.Mathlib.Nat.{mul-le-mul, le_of_lt, lt_of_le_of_lt, mul-le-mul_left, mul-lt-mul_of_pos_right}
+use lib.Pow.{pow_pos, pow-add}
 use Rattle.quantity.specs.declared.Instant.{Instant}
 use Rattle.quantity.specs.declared.Length.{Length}
-use Rattle.quantity.specs.Quantity.{at, ticks, later, since, less_portion, longer, shorter, length_of, last_instant, longest_length}
+use Rattle.quantity.specs.Quantity.{at, ticks, later, since, less_portion, larger, longer, shorter, length_of, last_instant, longest_length}
+
+-- the product of two numbers of k bits has at most k + k
+pub product_below : (k : ℕ) {a b : ℕ} → a < 2 ^ k → b < 2 ^ k → a * b < 2 ^ (k + k)
+product_below k {a} {b} ha hb =
+    subst⁻¹ (λ (n : ℕ). a * b < n) (pow-add 2 k k)
+    (lt_of_le_of_lt (mul-le-mul_left a (le_of_lt hb)) (mul-lt-mul_of_pos_right ha (pow_pos k)))
+
+-- a product of two numbers with bounds of their own
+pub product_at_most : (m n a b : ℕ) → a ≤ m → b ≤ n → a * b ≤ m * n
+product_at_most m n a b ha hb = mul-le-mul ha hb
 
 -- nothing is cut where the sum can be written
 pub later_exact : (t : Instant) (l : Length) → t.0 + l.0 ≤ last_instant → later t l ≡ at (t.0 + l.0)
@@ -37,6 +49,10 @@ length_of_exact n h = ap ticks (omega arith)
 pub less_portion_is : (t : Instant) (p q b : Length) → less_portion t p q b ≡ at (t.0 - q.0 * p.0 / b.0)
 unfolding less_portion
 less_portion_is t p q b = refl
+
+pub larger_is : (l m : Length) → larger l m ≡ ticks (max l.0 m.0)
+unfolding larger
+larger_is l m = refl
 
 pub later_is : (t : Instant) (l : Length) → (later t l).0 ≡ min (t.0 + l.0) last_instant
 unfolding later

@@ -1,4 +1,4 @@
-// Why a call is refused: one case for each rule that can be broken, with document 01's number.
+// Why a call is refused: one case for each rule that can be broken, with document 01's number, and one for any other number.
 #![tactic(auto)]
 
 ghost use Rattle.std.specs.Prelude.{◌≡◌};
@@ -26,6 +26,8 @@ pub enum Refusal {
     PastClockEnd,
     NotWellFormed,
     BufferTooShort,
+    // Meant for a number that no rule has. No call gives it: so that an `Answer` can be made with any number.
+    Other(u8),
 }
 
 impl From<Refusal> for u8 {
@@ -53,6 +55,7 @@ impl From<Refusal> for u8 {
             Refusal::PastClockEnd => 18,
             Refusal::NotWellFormed => 19,
             Refusal::BufferTooShort => 23,
+            Refusal::Other(number) => number,
         }
     }
 }

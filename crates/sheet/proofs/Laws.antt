@@ -107,6 +107,9 @@ module _ (t : List Figures) where
       omega (arith, servers_longer n, servers_width n)
 
   -- the servers counted, slot by slot
+  pub count_next : (n : ℕ) → 43 * length (bodies_of t (n + 1)) ≡ 43 * length (bodies_of t n) + length (slot_bytes (slot_of t n))
+  count_next n = omega (arith, servers_longer n, servers_width n, servers_width (n + 1))
+
   counted : (n : ℕ) → n ≤ length t → count_by (λ f. present f) (take n t) ≡ length (bodies_of t n)
   unfolding bodies_of
   counted zero l = refl

@@ -16,7 +16,7 @@ use Rattle.board.specs.Calls.{refuse, fresh, commissioning, vacancy, admitted_in
 use Rattle.board.proofs.Search.{search_none}
 use Rattle.fields.specs.Form.{in_form}
 use Rattle.fields.specs.Old.{form_of}
-use Rattle.sheet.specs.Sheet.{Reading, accepted, refused_at, tag_at, entered, answered_by, answered, onward, read_first, read_of}
+use Rattle.sheet.specs.Sheet.{Reading, accepted, refused_at, tag_at, entered, why_not, answered_by, answered, onward, read_first, read_of}
 use Rattle.sheet.specs.Commissioned.{Commissioned, opening, admission}
 use Rattle.sheet.proofs.Answers.{read_good}
 use Rattle.board.proofs.Commissions.{open_low, open_done, admit_done}
@@ -43,7 +43,7 @@ full {b} c p q hs =
 -- 16 servers were admitted, and there are more: 2 at the 17th server's tag
 module _ (s : List ℕ) {b : Board} (e : read_first s slots ≡ accepted b) where
   seventeenth : (n : ℕ) → read_first s (suc (slots + n)) ≡ refused_at TableFull 695
-  unfolding read_first entered onward answered_by
+  unfolding read_first entered onward answered_by why_not
   seventeenth zero =
       ap (λ (r : Reading). onward r s slots) e ∙ ap (λ (o : Outcome). answered o (tag_at slots)) (full (made s slots e) _ _ _)
   seventeenth (suc n) =

@@ -5,11 +5,12 @@ use Rattle.timing.specs.declared.Figures.{Figures}
 use Rattle.timing.specs.Timing.{present, hold}
 use Rattle.admission.specs.Admission.{slots, slot_of}
 use Rattle.refusals.specs.declared.Refusal.{Refusal}
-use Rattle.refusals.specs.declared.Refusal.TheVariants.{WrongPhase, NotWellFormed, BufferTooShort}
+use Rattle.refusals.specs.declared.Refusal.TheVariants.{WrongPhase, NotWellFormed, BufferTooShort, Other}
 use Rattle.board.specs.declared.Board.{Board}
 use Rattle.board.specs.declared.Outcome.{Outcome}
 use Rattle.board.specs.declared.Answer.{Answer}
 use Rattle.board.specs.declared.Answer.TheVariants as answer
+use Rattle.board.specs.Board.{number_of}
 use Rattle.board.specs.Calls.{blank, opened, admitted}
 use Rattle.fields.specs.Numbers.{bytes_of, number_in, placed}
 use Rattle.fields.specs.Form.{Form, sheet_of}
@@ -72,10 +73,14 @@ accepted b = Ok b
 abbrev pub refused_at : Refusal → ℕ → Reading
 refused_at why offset = Err (record { refusal = why; offset = offset })
 
+-- why a call with another number than 0 yields no board: its own refusal, or that number
+unfoldable pub why_not : Answer → Refusal
+why_not (answer.Refused why) = why
+why_not a = Other (number_of a)
+
 -- a call with a field: its next board, or its own refusal at the field's tag
 unfoldable pub answered_by : Answer → Board → ℕ → Reading
-answered_by (answer.Refused why) b tag = refused_at why tag
-answered_by _ b tag = accepted b
+answered_by a b tag = pick (eqb (number_of a) 0) (accepted b) (refused_at (why_not a) tag)
 
 abbrev pub answered : Outcome → ℕ → Reading
 answered o tag = answered_by o.answer o.board tag

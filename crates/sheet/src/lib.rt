@@ -7,7 +7,7 @@ ghost use Rattle.refusals.specs.declared.Refusal.TheVariants.{NotWellFormed};
 ghost use Rattle.fields.specs.Numbers.{bytes_of, placed};
 ghost use Rattle.fields.specs.Form.{servers_of};
 ghost use Rattle.sheet.specs.Sheet.{holds_of, body_of, bodies_of, encode, written, filled};
-ghost use Rattle.sheet.specs.Sheet.{number_at, entered, accepted, answered, onward, read_first, read_of};
+ghost use Rattle.sheet.specs.Sheet.{number_at, entered, accepted, why_not, answered, onward, read_first, read_of};
 ghost use Rattle.sheet.specs.Steps.{slot_bytes};
 
 use board::{Answer, Board, Outcome};
@@ -95,8 +95,8 @@ fn put_servers(buffer: &mut [u8], table: [Figures; 16]) -> usize
     ensures { (result ≡ 7 + length (servers_of 2 (bodies_of table 16))) × (buffer.new ≡ placed buffer.old 7 (servers_of 2 (bodies_of table 16))) }
 {
     let mut at = FRAME_FIELD;
-    for f in table {
-        at = put_slot(buffer, at, f);
+    for f in &table {
+        at = put_slot(buffer, at, *f);
     }
     at
 }
@@ -166,18 +166,29 @@ fn enter(board: Board, body: &[u8]) -> Outcome
     board.admit(number_at(body, 0), number_at(body, 1), holds_in(body))
 }
 
-// A call with a field: its board, or why the field at a tag is refused. Opening and admitting give no other answer (`Plain`).
-#[tactic(auto, unfolding(crate::specs::Sheet::answered_by))]
+// Why a call with another number than 0 yields no board. Opening and admitting give only refusals (`Plain`).
+#[tactic(auto, unfolding(crate::specs::Sheet::why_not))]
+fn why_not(answer: Answer) -> Refusal
+    ensures { result ≡ why_not answer }
+{
+    match answer {
+        Answer::Refused(why) => why,
+        _ => Refusal::Other(answer.number()),
+    }
+}
+
+// A call with a field: its board, or why the field at a tag is refused.
+#[tactic(auto, using(crate::proofs::Answers::answered_refused, crate::proofs::Answers::answered_done))]
 fn answered(o: Outcome, tag: usize) -> Result<Board, BadSheet>
     ensures { result ≡ answered o tag }
 {
-    match o.answer {
-        Answer::Refused(refusal) => Err(BadSheet {
-            refusal,
+    if o.answer.number() != 0 {
+        return Err(BadSheet {
+            refusal: why_not(o.answer),
             offset: tag,
-        }),
-        _ => Ok(o.board),
+        });
     }
+    Ok(o.board)
 }
 
 // Each step asks that the sheet has its own field, here and below: a type for that would serve one function alone.

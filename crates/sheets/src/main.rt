@@ -1,12 +1,13 @@
 // The sheets program: each line of standard input a sheet in lower-case hex; its answer and value, and an accepted sheet written back.
 #![tactic(auto)]
 
+ghost use Rattle.std.specs.Prelude.{◌≡◌, []};
+
 use arrayvec::ArrayVec;
-use board::Board;
 use input::Program;
 use output::Output;
 use std::io;
-use std::io::{Stdout, Write};
+use std::io::{ErrorKind, Stdout, Write};
 
 // What a line has been so far: bytes in hex, perhaps with the first digit of one more, or no sheet in hex.
 #[derive(Clone, Copy)]
@@ -23,8 +24,11 @@ struct Line {
     seen: Seen,
 }
 
-// An answer's line. The longest has 1,401 bytes.
-type Text = ArrayVec<u8, 2048>;
+// The longest answer's line has 1,401 bytes: where fewer than these are free, what waits is written before the next is made.
+const ROOM: usize = 2048;
+
+// An answer's line.
+type Text = ArrayVec<u8, ROOM>;
 
 // By a table: `{:02x}` takes three times as long for a sheet.
 const DIGITS: [u8; 16] = *b"0123456789abcdef";
@@ -74,46 +78,48 @@ impl Line {
         self.bytes.clear();
         self.seen = Seen::Bytes;
     }
+}
 
-    // What is written for the line: "-" where it is no sheet in hex.
-    fn answer(&self, text: &mut Text) -> io::Result<()> {
-        let Some(bytes) = self.sheet() else {
-            return text.write_all(b"-");
-        };
-        match sheet::read(bytes) {
-            Ok(board) => {
-                text.write_all(b"0 0")?;
-                put_back(board, text)
-            }
-            Err(bad) => write!(text, "{} {}", u8::from(bad.refusal), bad.offset),
+// Bytes behind a text. They fit: no answer is longer than its room. By `write_all` a few bytes take longer.
+fn put(bytes: &[u8], text: &mut Text) -> io::Result<()> {
+    text.try_extend_from_slice(bytes)
+        .map_err(|_| ErrorKind::WriteZero)?;
+    Ok(())
+}
+
+// What is written for a sheet, into an empty text: an accepted one is written back, by way of a lent buffer.
+fn answer(bytes: &[u8], text: &mut Text, back: &mut [u8]) -> io::Result<()>
+    requires { text.old.items ≡ [] }
+{
+    match sheet::read(bytes) {
+        Ok(board) => {
+            // Never an error: an accepted sheet's board has a frame, and no sheet is longer than 698 bytes.
+            let size = sheet::write(board, back).unwrap_or(0);
+            put(b"0 0 ", text)?;
+            put_hex(back, size, text)
         }
+        Err(bad) => write!(text, "{} {}", u8::from(bad.refusal), bad.offset),
     }
 }
 
-// An accepted sheet, written back behind a space.
-fn put_back(board: Board, text: &mut Text) -> io::Result<()> {
-    // Lent to `sheet::write`, which answers how many bytes it wrote.
-    let mut back = [0; 1024];
-    let size = match sheet::write(board, &mut back) {
-        Ok(size) => size,
-        // Never: an accepted sheet's board has a frame, and no sheet is longer than 698 bytes.
-        Err(_) => 0,
-    };
-    text.write_all(b" ")?;
+// The first bytes of a buffer, in hex.
+fn put_hex(back: &[u8], size: usize, text: &mut Text) -> io::Result<()> {
     for byte in back.iter().take(size) {
         let digits = [
             DIGITS[usize::from(byte >> 4)],
             DIGITS[usize::from(byte & 15)],
         ];
-        text.write_all(&digits)?;
+        put(&digits, text)?;
     }
     Ok(())
 }
 
-// The line as far as it has been read, and the answers that wait.
+// The line as far as it has been read, the text of its answer, a sheet written back, and the answers that wait.
 #[derive(Drop)]
 struct Sheets {
     line: Line,
+    text: Text,
+    back: [u8; 1024],
     out: Output<Stdout, 65536>,
 }
 
@@ -121,17 +127,25 @@ impl Sheets {
     fn new(to: Stdout) -> Self {
         Sheets {
             line: Line::new(),
+            text: Text::new(),
+            back: [0; 1024],
             out: Output::new(to),
         }
     }
 
-    // The answer's line is handed on whole, so that no system write ends inside it.
+    // "-" for a line that is no sheet in hex. The answer's line is handed on whole, so that no system write ends inside it.
     fn end_line(&mut self) -> io::Result<()> {
-        let mut text = Text::new();
-        self.line.answer(&mut text)?;
-        text.write_all(b"\n")?;
+        self.out.make_room(ROOM)?;
+        let Some(bytes) = self.line.sheet() else {
+            self.line.clear();
+            return self.out.write_all(b"-\n");
+        };
+        // The text of the line before.
+        self.text.clear();
+        answer(bytes, &mut self.text, &mut self.back)?;
+        put(b"\n", &mut self.text)?;
         self.line.clear();
-        self.out.write_all(text.as_slice())
+        self.out.write_all(self.text.as_slice())
     }
 
     fn feed(&mut self, byte: u8) -> io::Result<()> {

@@ -1,8 +1,8 @@
 -- What holds of the sum, the largest, every, some and the list over the numbers below n: by going from n to n + 1.
-use Prim.Native.Nat.{ℕ, zero, suc, ◌≤◌, ◌<◌, max}
+use Prim.Native.Nat.{ℕ, zero, suc, ◌+◌, ◌≤◌, ◌<◌, max}
 use mathlib.Core.Path.{◌≡◌, refl, sym, subst, ◌∙◌}
 use mathlib.Core.Logic.{◌⊎◌, inl, inr, ⊎_elim}
-use mathlib.Core.Bool.{Bool, true}
+use mathlib.Core.Bool.{Bool, true, false, ◌&&◌, ◌||◌}
 use mathlib.Core.List.{[], ◌∷◌}
 use lib.ListN.{length, get_or, length-append, get_or-append}
 use lib.Seq.{get_or_at}
@@ -11,7 +11,7 @@ use native.Mathlib.Nat.{eq-or-lt_of_le, le_of_suc-le-suc, max-le, max-eq_left, m
 use native.Mathlib.Numerals.{add-one}
 use native.Mathlib.Decide.{dec_le}
 use Rattle.terms.specs.Words.{sum, largest, every, some, list}
-use Rattle.terms.proofs.Tests.{not_both, and_in, and_left, and_right, or_left, or_right, or_out}
+use Rattle.terms.proofs.Tests.{not_both, true_or_false, and_in, and_left, and_right, or_left, or_right, or_out}
 
 -- below n + 1: n itself, or below n
 pub last_or_below : {j n : ℕ} → j < suc n → (j ≡ n) ⊎ (j < n)
@@ -77,6 +77,27 @@ unfolding some
 some_out f zero e = absurd (not_both e refl)
 some_out f (suc n) e =
     ⊎_elim (λ p. let (j, l, q) = some_out f n p in (j, omega arith, q)) (λ p. (n, omega arith, p)) (or_out (some f n) (f n) e)
+
+-- from n to n + 1, as the code counts
+pub sum_next : (f : ℕ → ℕ) (n : ℕ) → sum f (n + 1) ≡ sum f n + f n
+unfolding sum
+sum_next f n = rw add-one
+
+pub largest_next : (f : ℕ → ℕ) (n : ℕ) → largest f (n + 1) ≡ max (largest f n) (f n)
+unfolding largest
+largest_next f n = rw add-one
+
+pub every_next : (f : ℕ → Bool) (n : ℕ) → every f (n + 1) ≡ (every f n && f n)
+unfolding every
+every_next f n = rw add-one
+
+pub some_next : (f : ℕ → Bool) (n : ℕ) → some f (n + 1) ≡ (some f n || f n)
+unfolding some
+some_next f n = rw add-one
+
+-- a test that fails somewhere does not hold everywhere
+pub every_fails : (f : ℕ → Bool) (n j : ℕ) → j < n → f j ≡ false → every f n ≡ false
+every_fails f n j h e = ⊎_elim (λ t. absurd (not_both (every_out f n t j h) e)) (λ t. t) (true_or_false (every f n))
 
 -- the list's length, and what stands at each place
 module _ {A : Type 0} (f : ℕ → A) where

@@ -79,10 +79,16 @@ impl Figures {
             .unwrap_or(Length::NONE)
     }
 
+    // A loop: `max` of the iterator takes nearly twice as long.
+    #[tactic(auto, using(quantity::proofs::Largest::max_larger, crate::specs::Timing::Text::largest_hold_is), unfolding(terms::specs::Words::largest, quantity::specs::Quantity::larger))]
     pub fn largest_hold(self) -> Length
         ensures { result ≡ largest_hold self }
     {
-        self.holds.iter().copied().max().unwrap_or(Length::NONE)
+        let mut most = Length::NONE;
+        for r in 0..8 {
+            most = most.max(self.hold(r));
+        }
+        most
     }
 
     #[tactic(auto, using(crate::specs::Timing::Text::replenished_is))]
